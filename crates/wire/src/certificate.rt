@@ -7,7 +7,7 @@ ghost use Rattle.std.specs.declared.result.Result.{Result};
 ghost use Rattle.std.specs.Vec.{made};
 ghost use Rattle.wire.specs.declared.words.Malformed.{Malformed};
 ghost use Rattle.wire.specs.Layout.{voteAt, votesAt};
-ghost use Rattle.wire.specs.Parts.{behind, countedEnd, entryRead};
+ghost use Rattle.wire.specs.Parts.{Inside, behind, countedEnd, entryRead};
 use super::tag::Part;
 use super::tag::tag_at;
 use super::words::Malformed;
@@ -24,7 +24,7 @@ pub struct Entry<'a> {
 // The entry at a place, and the place behind it.
 pub fn entry_at(packet: &[u8], at: usize, limit: TagLimit) -> Result<(Entry<'_>, usize), Malformed>
     ensures value { λ r. ⌜ entryRead r ≡ voteAt (limit .bytes) (now (packet .entry)) at ⌝ }
-    ensures within { λ r. ⌜ made r (λ p. p .1 ≤ length (now (packet .entry))) ⌝ }
+    ensures within { λ r. ⌜ made r (λ p. Inside at (p .1) (now (packet .entry))) ⌝ }
     ensures place { λ r. ⌜ made r (λ p. p .0 .tag .place ≡ at + 4) ⌝ }
 {
     let site = word_at(packet, at)?;
@@ -39,13 +39,13 @@ pub trait Counted {
     // The place behind one of them.
     fn end(packet: &[u8], at: usize, limit: TagLimit) -> Result<usize, Malformed>
         ensures value { λ r. ⌜ r ≡ ends (limit .bytes) (now (packet .entry)) at ⌝ }
-        ensures within { λ r. ⌜ made r (λ e. e ≤ length (now (packet .entry))) ⌝ };
+        ensures within { λ r. ⌜ made r (λ e. Inside at e (now (packet .entry))) ⌝ };
 }
 
 // The place behind a count word up to 16 and so many of them.
 pub fn counted_end<C: Counted>(packet: &[u8], at: usize, limit: TagLimit) -> Result<usize, Malformed>
     ensures value { λ r. ⌜ r ≡ countedEnd (C·Counted .ends (limit .bytes) (now (packet .entry))) (now (packet .entry)) at ⌝ }
-    ensures within { λ r. ⌜ made r (λ e. e ≤ length (now (packet .entry))) ⌝ }
+    ensures within { λ r. ⌜ made r (λ e. Inside at e (now (packet .entry))) ⌝ }
 {
     let count = word_at(packet, at)?;
     if count > 16 {
@@ -72,7 +72,7 @@ pub impl Counted for Entries as EntriesCounted {
 // The place behind a commit certificate.
 pub fn certificate_end(packet: &[u8], at: usize, limit: TagLimit) -> Result<usize, Malformed>
     ensures value { λ r. ⌜ r ≡ behind (votesAt (limit .bytes) (now (packet .entry)) at) ⌝ }
-    ensures within { λ r. ⌜ made r (λ e. e ≤ length (now (packet .entry))) ⌝ }
+    ensures within { λ r. ⌜ made r (λ e. Inside at e (now (packet .entry))) ⌝ }
 {
     counted_end::<Entries>(packet, at, limit)
 }

@@ -3,6 +3,7 @@ ghost use mathlib.Core.Path.{_≡_};
 ghost use Prim.Native.Nat.{_+_, _≤_};
 ghost use lib.ListN.{length};
 ghost use Rattle.std.specs.Vec.{made};
+ghost use Rattle.wire.specs.Parts.{Inside};
 ghost use Rattle.wire.specs.Layout.{valueAt, headAt, reportAt, claimAt, changeAt};
 use super::words::Malformed;
 use super::words::word_at;
@@ -63,7 +64,7 @@ fn head_at(packet: &[u8], at: usize) -> Result<Head, Malformed>
 // A report that may be absent, and the place behind it.
 fn report_at(packet: &[u8], at: usize) -> Result<(Option<Report>, usize), Malformed>
     ensures value { λ r. ⌜ r ≡ reportAt (now (packet .entry)) at ⌝ }
-    ensures within { λ r. ⌜ made r (λ p. p .1 ≤ length (now (packet .entry))) ⌝ }
+    ensures within { λ r. ⌜ made r (λ p. Inside at (p .1) (now (packet .entry))) ⌝ }
 {
     match word_at(packet, at)? {
         0 => Ok((None, at + 4)),
@@ -79,7 +80,7 @@ fn report_at(packet: &[u8], at: usize) -> Result<(Option<Report>, usize), Malfor
 // The claim behind a kind word, and the place behind it.
 pub fn claim_at(packet: &[u8], at: usize) -> Result<(Claim, usize), Malformed>
     ensures value { λ r. ⌜ r ≡ claimAt (now (packet .entry)) at ⌝ }
-    ensures within { λ r. ⌜ made r (λ p. p .1 ≤ length (now (packet .entry))) ⌝ }
+    ensures within { λ r. ⌜ made r (λ p. Inside at (p .1) (now (packet .entry))) ⌝ }
 {
     let head = head_at(packet, at)?;
     let value = value_at(packet, at + 12)?;
@@ -89,7 +90,7 @@ pub fn claim_at(packet: &[u8], at: usize) -> Result<(Claim, usize), Malformed>
 // The view change behind a kind word, and the place behind it.
 pub fn view_change_at(packet: &[u8], at: usize) -> Result<(ViewChange, usize), Malformed>
     ensures value { λ r. ⌜ r ≡ changeAt (now (packet .entry)) at ⌝ }
-    ensures within { λ r. ⌜ made r (λ p. p .1 ≤ length (now (packet .entry))) ⌝ }
+    ensures within { λ r. ⌜ made r (λ p. Inside at (p .1) (now (packet .entry))) ⌝ }
 {
     let head = head_at(packet, at)?;
     let (prepared, next) = report_at(packet, at + 12)?;

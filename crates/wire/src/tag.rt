@@ -5,7 +5,7 @@ ghost use lib.ListN.{length};
 ghost use Rattle.std.specs.Vec.{made};
 ghost use Rattle.wire.specs.Contents.{padded};
 ghost use Rattle.wire.specs.Layout.{zeros, tagAt};
-ghost use Rattle.wire.specs.Parts.{tagRead};
+ghost use Rattle.wire.specs.Parts.{Inside, tagRead};
 use super::words::Malformed;
 use super::words::word_at;
 use values::TagLimit;
@@ -40,7 +40,7 @@ fn all_zero(bytes: &[u8]) -> bool
 // The tag at a place, and the place behind it.
 pub fn tag_at(packet: &[u8], at: usize, limit: TagLimit) -> Result<(Part<'_>, usize), Malformed>
     ensures value { λ r. ⌜ tagRead r ≡ tagAt (limit .bytes) (now (packet .entry)) at ⌝ }
-    ensures within { λ r. ⌜ made r (λ p. p .1 ≤ length (now (packet .entry))) ⌝ }
+    ensures within { λ r. ⌜ made r (λ p. Inside at (p .1) (now (packet .entry))) ⌝ }
     ensures place { λ r. ⌜ made r (λ p. p .0 .place ≡ at) ⌝ }
 {
     let len = word_at(packet, at)? as usize;

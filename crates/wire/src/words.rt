@@ -3,12 +3,22 @@ ghost use mathlib.Core.Path.{_≡_};
 ghost use Prim.Native.Nat.{_+_, _≤_};
 ghost use lib.ListN.{length};
 ghost use Rattle.std.specs.Vec.{made};
+ghost use Rattle.values.specs.declared.refusal.Refusal.the-variants.{Layout};
 ghost use Rattle.wire.specs.Words.{wordAt};
+use values::Refusal;
 
 // The layout is broken at a place: refusal number 3.
 #[derive(Clone, Copy)]
 pub struct Malformed {
     pub place: usize,
+}
+
+pub impl From<Malformed> for Refusal as RefusalFromMalformed {
+    ghost converts = { λ fault r. r ≡ Layout (fault .place) };
+
+    fn from(fault: Malformed) -> Refusal {
+        Refusal::Layout { place: fault.place }
+    }
 }
 
 // The word at a place.

@@ -8,4 +8,4 @@ use Rattle.wire.proofs.certificate.counted_end.Given as given
 abbrev pub Inv-loop-i : given.InvT-loop-i
 Inv-loop-i g l =
     (manyEnd (g .C·Counted .ends (l .limit .bytes) (l .packet)) (l .count - l .-i) (l .next) ≡ manyEnd (g .C·Counted .ends (l .limit .bytes) (l .packet)) (l .count) (l .at + 4))
-    × (l .next ≤ length (l .packet))
+    × (l .at ≤ l .next) × (l .next ≤ length (l .packet))

@@ -1,0 +1,15 @@
+use borrow.Author.Needs.{needs}
+use mathlib.Core.Path.{sym, ap, _∙_}
+use Rattle.wire.specs.Parts.{mapOk}
+use Rattle.wire.proofs.Located.{bare, prepare-located}
+use Rattle.wire.proofs.message.read_prepare.Needs as need
+
+pub returns-in-Break-statement : need.returns-in-Break-statement
+returns-in-Break-statement c =
+    let e = prepare-located (c .args .limit .bytes) (c .args .packet .now) ∙ ap (mapOk bare) (sym (c .read-as .ensures)) in
+    search needs
+
+pub returns : need.returns
+returns c =
+    let e = prepare-located (c .args .limit .bytes) (c .args .packet .now) ∙ ap (mapOk bare) (sym (c .read-as .ensures)) in
+    search needs

@@ -1,0 +1,79 @@
+// Drafts and messages, and sealing. A refusal leaves `out` as it was.
+ghost use mathlib.Core.Path.{_≡_};
+ghost use Rattle.values.specs.Refusals.{answered};
+ghost use Rattle.wire.specs.Parts.{told};
+ghost use Rattle.writing.specs.Written.{drafting, sending, sealing};
+use super::put::put;
+use super::put::put_statement;
+use super::put::put_tag;
+use super::put::statement_length;
+use values::Refusal;
+use values::TagLimit;
+use wire::Message;
+use wire::RefusalFromMalformed;
+use wire::Statement;
+use wire::draft_end;
+use wire::pad;
+
+// A statement and its attachment, at the start of `out`; answers their length.
+pub fn write_draft(statement: Statement, attachment: &[u8], out: &mut [u8]) -> Result<usize, Refusal>
+    ensures value { λ r. ⌜ answered (λ n. n) r ≡ drafting statement (now (attachment .entry)) (now (out .entry)) .0 ⌝ }
+    ensures after { λ _. ⌜ now (out .exit) ≡ drafting statement (now (attachment .entry)) (now (out .entry)) .1 ⌝ }
+{
+    let len = statement_length(statement);
+    if out.len() < len || out.len() - len < attachment.len() {
+        return Err(Refusal::Short);
+    }
+    let next = put_statement(out, 0, statement);
+    Ok(put(out, next, attachment))
+}
+
+// Statement, tag and attachment, at the start of `out`; answers their length.
+fn write_parts(statement: Statement, tag: &[u8], attachment: &[u8], limit: TagLimit, out: &mut [u8]) -> Result<usize, Refusal>
+    ensures value { λ r. ⌜ answered (λ n. n) r ≡ sending (limit .bytes) (record { statement = statement; tag = record { place = 0; bytes = now (tag .entry) }; attachment = record { place = 0; bytes = now (attachment .entry) } }) (now (out .entry)) .0 ⌝ }
+    ensures after { λ _. ⌜ now (out .exit) ≡ sending (limit .bytes) (record { statement = statement; tag = record { place = 0; bytes = now (tag .entry) }; attachment = record { place = 0; bytes = now (attachment .entry) } }) (now (out .entry)) .1 ⌝ }
+{
+    if tag.len() > limit.bytes() {
+        return Err(Refusal::Layout { place: 0 });
+    }
+    let len = statement_length(statement) + 4 + pad(tag.len());
+    if out.len() < len || out.len() - len < attachment.len() {
+        return Err(Refusal::Short);
+    }
+    let next = put_statement(out, 0, statement);
+    let next = put_tag(out, next, tag);
+    Ok(put(out, next, attachment))
+}
+
+// A whole message, at the start of `out`; answers its length.
+pub fn write_message(message: Message<'_>, limit: TagLimit, out: &mut [u8]) -> Result<usize, Refusal>
+    ensures value { λ r. ⌜ answered (λ n. n) r ≡ sending (limit .bytes) (told (message .entry)) (now (out .entry)) .0 ⌝ }
+    ensures after { λ _. ⌜ now (out .exit) ≡ sending (limit .bytes) (told (message .entry)) (now (out .entry)) .1 ⌝ }
+{
+    match message {
+        Message::Propose { claim, tag, progress } => write_parts(Statement::Propose(claim), tag.bytes, progress.bytes, limit, out),
+        Message::Prepare { claim, tag } => write_parts(Statement::Prepare(claim), tag.bytes, &[], limit, out),
+        Message::Commit { claim, tag, certificate } => write_parts(Statement::Commit(claim), tag.bytes, certificate.bytes, limit, out),
+        Message::NewView { change, tag, certificate } => write_parts(Statement::NewView(change), tag.bytes, certificate.bytes, limit, out),
+    }
+}
+
+// Puts a tag behind the statement of a draft, and the message at the start of `out`;
+// answers its length.
+pub fn seal(draft: &[u8], tag: &[u8], limit: TagLimit, out: &mut [u8]) -> Result<usize, Refusal>
+    ensures value { λ r. ⌜ answered (λ n. n) r ≡ sealing (limit .bytes) (now (draft .entry)) (now (tag .entry)) (now (out .entry)) .0 ⌝ }
+    ensures after { λ _. ⌜ now (out .exit) ≡ sealing (limit .bytes) (now (draft .entry)) (now (tag .entry)) (now (out .entry)) .1 ⌝ }
+{
+    if tag.len() > limit.bytes() {
+        return Err(Refusal::Layout { place: 0 });
+    }
+    let room = limit.bytes() + 4;
+    if out.len() < room || out.len() - room < draft.len() {
+        return Err(Refusal::Short);
+    }
+    let end = draft_end(draft, limit)?;
+    let (statement, attachment) = draft.split_at(end);
+    let next = put(out, 0, statement);
+    let next = put_tag(out, next, tag);
+    Ok(put(out, next, attachment))
+}
