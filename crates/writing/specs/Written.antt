@@ -29,13 +29,13 @@ writing bytes out = cond (leb (length bytes) (length out)) (filling bytes out) (
 unfoldable pub drafting : Statement → List ℕ → List ℕ → Result ℕ Refused × List ℕ
 drafting s attachment out = writing (statementBytes s ++ attachment) out
 
--- statement, tag, attachment
-abbrev pub piecesBytes : Pieces Statement → List ℕ
-piecesBytes p = statementBytes (p .statement) ++ (tagBytes (p .tag .bytes) ++ p .attachment .bytes)
+-- a whole message: statement, tag, attachment; the tag must not be longer than the limit
+unfoldable pub sendingOf : ℕ → Statement → List ℕ → List ℕ → List ℕ → Result ℕ Refused × List ℕ
+sendingOf limit s tag attachment out =
+    cond (leb (length tag) limit) (writing (statementBytes s ++ (tagBytes tag ++ attachment)) out) (refusing (layout 0) out)
 
--- a whole message, whose tag must not be longer than the limit
-unfoldable pub sending : ℕ → Pieces Statement → List ℕ → Result ℕ Refused × List ℕ
-sending limit p out = cond (leb (length (p .tag .bytes)) limit) (writing (piecesBytes p) out) (refusing (layout 0) out)
+abbrev pub sending : ℕ → Pieces Statement → List ℕ → Result ℕ Refused × List ℕ
+sending limit p out = sendingOf limit (p .statement) (p .tag .bytes) (p .attachment .bytes) out
 
 -- a draft whose statement ends at a place, with a tag put in there
 abbrev pub sealedBytes : List ℕ → ℕ → List ℕ → List ℕ
@@ -49,5 +49,5 @@ sealingBy draft tag out (Err e) = refusing (layout (e .place)) out
 unfoldable pub sealing : ℕ → List ℕ → List ℕ → List ℕ → Result ℕ Refused × List ℕ
 sealing limit draft tag out =
     cond (leb (length tag) limit)
-    (cond (leb (length draft + limit + 4) (length out)) (sealingBy draft tag out (draftEnd limit draft)) (refusing short out))
+    (cond (leb (length draft + (limit + 4)) (length out)) (sealingBy draft tag out (draftEnd limit draft)) (refusing short out))
     (refusing (layout 0) out)

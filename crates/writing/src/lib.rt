@@ -1,12 +1,12 @@
 // Statements, tags, drafts and messages, written into a lent buffer; and sealing.
 mod message;
-mod put;
+mod pieces;
 
 pub use message::seal;
 pub use message::write_draft;
 pub use message::write_message;
-pub use put::put;
-pub use put::put_statement;
-pub use put::put_tag;
-pub use put::put_word;
-pub use put::statement_length;
+pub use pieces::put;
+pub use pieces::put_statement;
+pub use pieces::put_tag;
+pub use pieces::put_word;
+pub use pieces::statement_length;

@@ -1,12 +1,15 @@
 // Drafts and messages, and sealing. A refusal leaves `out` as it was.
 ghost use mathlib.Core.Path.{_≡_};
+ghost use Prim.Native.Nat.{_+_};
+ghost use lib.Dec.{leb};
+ghost use lib.ListN.{length};
 ghost use Rattle.values.specs.Refusals.{answered};
 ghost use Rattle.wire.specs.Parts.{told};
-ghost use Rattle.writing.specs.Written.{drafting, sending, sealing};
-use super::put::put;
-use super::put::put_statement;
-use super::put::put_tag;
-use super::put::statement_length;
+ghost use Rattle.writing.specs.Written.{drafting, sendingOf, sending, sealing};
+use super::pieces::put;
+use super::pieces::put_statement;
+use super::pieces::put_tag;
+use super::pieces::statement_length;
 use values::Refusal;
 use values::TagLimit;
 use wire::Message;
@@ -15,13 +18,19 @@ use wire::Statement;
 use wire::draft_end;
 use wire::pad;
 
+fn has_room(out: &[u8], first: usize, second: usize) -> bool
+    ensures { λ r. ⌜ r ≡ leb (first + second) (length (now (out .entry))) ⌝ }
+{
+    first <= out.len() && second <= out.len() - first
+}
+
 // A statement and its attachment, at the start of `out`; answers their length.
 pub fn write_draft(statement: Statement, attachment: &[u8], out: &mut [u8]) -> Result<usize, Refusal>
     ensures value { λ r. ⌜ answered (λ n. n) r ≡ drafting statement (now (attachment .entry)) (now (out .entry)) .0 ⌝ }
     ensures after { λ _. ⌜ now (out .exit) ≡ drafting statement (now (attachment .entry)) (now (out .entry)) .1 ⌝ }
 {
     let len = statement_length(statement);
-    if out.len() < len || out.len() - len < attachment.len() {
+    if !has_room(out, len, attachment.len()) {
         return Err(Refusal::Short);
     }
     let next = put_statement(out, 0, statement);
@@ -30,14 +39,14 @@ pub fn write_draft(statement: Statement, attachment: &[u8], out: &mut [u8]) -> R
 
 // Statement, tag and attachment, at the start of `out`; answers their length.
 fn write_parts(statement: Statement, tag: &[u8], attachment: &[u8], limit: TagLimit, out: &mut [u8]) -> Result<usize, Refusal>
-    ensures value { λ r. ⌜ answered (λ n. n) r ≡ sending (limit .bytes) (record { statement = statement; tag = record { place = 0; bytes = now (tag .entry) }; attachment = record { place = 0; bytes = now (attachment .entry) } }) (now (out .entry)) .0 ⌝ }
-    ensures after { λ _. ⌜ now (out .exit) ≡ sending (limit .bytes) (record { statement = statement; tag = record { place = 0; bytes = now (tag .entry) }; attachment = record { place = 0; bytes = now (attachment .entry) } }) (now (out .entry)) .1 ⌝ }
+    ensures value { λ r. ⌜ answered (λ n. n) r ≡ sendingOf (limit .bytes) statement (now (tag .entry)) (now (attachment .entry)) (now (out .entry)) .0 ⌝ }
+    ensures after { λ _. ⌜ now (out .exit) ≡ sendingOf (limit .bytes) statement (now (tag .entry)) (now (attachment .entry)) (now (out .entry)) .1 ⌝ }
 {
     if tag.len() > limit.bytes() {
         return Err(Refusal::Layout { place: 0 });
     }
     let len = statement_length(statement) + 4 + pad(tag.len());
-    if out.len() < len || out.len() - len < attachment.len() {
+    if !has_room(out, len, attachment.len()) {
         return Err(Refusal::Short);
     }
     let next = put_statement(out, 0, statement);
@@ -67,8 +76,7 @@ pub fn seal(draft: &[u8], tag: &[u8], limit: TagLimit, out: &mut [u8]) -> Result
     if tag.len() > limit.bytes() {
         return Err(Refusal::Layout { place: 0 });
     }
-    let room = limit.bytes() + 4;
-    if out.len() < room || out.len() - room < draft.len() {
+    if !has_room(out, draft.len(), limit.bytes() + 4) {
         return Err(Refusal::Short);
     }
     let end = draft_end(draft, limit)?;

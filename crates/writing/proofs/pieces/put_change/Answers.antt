@@ -3,7 +3,7 @@ use native.Mathlib.Omega.{arith}
 use lib.ListN.{length-append}
 use Rattle.wire.specs.Contents.{reportBytes}
 use Rattle.writing.proofs.Laying.{then}
-use Rattle.writing.proofs.put.put_change.Needs as need
+use Rattle.writing.proofs.pieces.put_change.Needs as need
 
 pub put-report-next-requires : need.put-report-next-requires
 put-report-next-requires c κs = omega (arith, length-append (reportBytes (c .args .change .prepared)) (reportBytes (c .args .change .committed)))

@@ -2,7 +2,7 @@ use borrow.Author.Needs.{needs}
 use native.Mathlib.Omega.{arith}
 use Rattle.wire.proofs.Lengths.{length-tag}
 use Rattle.writing.proofs.Laying.{then}
-use Rattle.writing.proofs.put.put_tag.Needs as need
+use Rattle.writing.proofs.pieces.put_tag.Needs as need
 
 pub put-next-requires : need.put-next-requires
 put-next-requires c κs = omega (arith, length-tag (c .args .tag .now))

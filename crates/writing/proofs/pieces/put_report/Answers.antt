@@ -1,6 +1,6 @@
 use borrow.Author.Needs.{needs}
 use Rattle.writing.proofs.Laying.{then}
-use Rattle.writing.proofs.put.put_report.Needs as need
+use Rattle.writing.proofs.pieces.put_report.Needs as need
 
 pub returns-in-Some : need.returns-in-Some
 returns-in-Some c =
