@@ -164,10 +164,14 @@ messageOf limit b = bind (wordAt b 0) (messageBy limit b)
 abbrev pub draftAs : {S A : Type 0} → ℕ → (ℕ → Result (S × ℕ) Malformed) → (S → ℕ → Result (A × ℕ) Malformed) → List ℕ → Result ℕ Malformed
 draftAs kind statement attachment b = wholly b (envelopeAt kind statement nothingAt attachment (λ s t a. s .1) b 0)
 
-unfoldable pub draftEnd : ℕ → List ℕ → Result ℕ Malformed
-draftEnd limit b = bind (wordAt b 0) (λ k.
+abbrev pub draftBy : ℕ → List ℕ → ℕ → Result ℕ Malformed
+draftBy limit b k =
     cond (eqb k 1) (draftAs 1 (claimAt b) (λ c. progressAt limit b) b)
     (cond (eqb k 2) (draftAs 2 (claimAt b) (λ c. nothingAt) b)
     (cond (eqb k 3) (draftAs 3 (claimAt b) (λ c. votesAt limit b) b)
     (cond (eqb k 4) (draftAs 4 (changeAt b) (λ c. certifiedAt limit b (c .committed)) b)
-    (fault 0)))))
+    (fault 0))))
+
+-- the place behind the statement of a draft
+unfoldable pub draftEnd : ℕ → List ℕ → Result ℕ Malformed
+draftEnd limit b = bind (wordAt b 0) (draftBy limit b)
