@@ -26,13 +26,16 @@ use Rattle.wire.specs.declared.statement.Claim.{Claim}
 use Rattle.wire.specs.declared.statement.Statement.{Statement}
 use Rattle.wire.specs.Contents.{kindOf, statementBytes, reportBytes, tagBytes, certificateBytes, certifiedBytes, reported, changeOf, turnBytes, progressBytes, Content, propose, prepare, commit, new-view, statementOf, tagOf, attachmentBytes, messageBytes, draftBytes, withTag}
 use Rattle.wire.specs.Layout.{messageOf, draftEnd}
-use Rattle.wire.specs.Parts.{mapOk, locate, shortestOf}
+use Rattle.wire.specs.Parts.{Pieces, mapOk, locate, shortestOf}
 use Rattle.wire.proofs.Lengths.{length-tag}
 use Rattle.writing.specs.Written.{refusing, sealedBytes, sealingBy, sealing}
 use Rattle.packets.specs.Fits.{ValueFits, ContentFits, Bytes}
-use Rattle.packets.specs.Laws.{faulted, readingOf, partsOf, Written-reads-back, One-byte-string, Statements-told-apart, Sealed-reads-back, Drafts-are-sealed, Shortest, Fixes-are-words}
+use Rattle.packets.specs.Laws.{faulted, readingOf, partsOf, Written-reads-back, One-byte-string, Parts-are-the-packet, Statements-told-apart, Sealed-reads-back, Drafts-are-sealed, Shortest, Fixes-are-words}
 use Rattle.packets.proofs.Back.{message-back, draft-back, told-apart}
 use Rattle.packets.proofs.Whole.{message-only, draft-only}
+
+err-not-ok : {A : Type 0} {e : Refused} {x : A} → _≡_ {A = Result A Refused} (Err e) (Ok x) → ⊥
+err-not-ok h = let z : _≡_ {A = ℕ} 0 1 = cc in omega arith
 
 past : (xs ys zs : List ℕ) → drop (length xs + length ys) (xs ++ (ys ++ zs)) ≡ zs
 past xs ys zs = ap (drop (length xs + length ys)) (sym (append-assoc xs ys zs)) ∙ drop-at (xs ++ ys) zs (length xs + length ys) (length-append xs ys)
@@ -47,6 +50,24 @@ written-reads-back limit m small fits =
 
 pub one-byte-string : One-byte-string
 one-byte-string limit b m bytes h = message-only limit b bytes m h
+
+-- what reading answered was made of a content
+located : (b : List ℕ) (r : Result Content Malformed) (p : Pieces Statement) → faulted (mapOk (locate b) r) ≡ Ok p → (m : Content) × (r ≡ Ok m) × (locate b m ≡ p)
+located b (Ok m) p h = (m, refl, cc)
+located b (Err e) p h = absurd (err-not-ok h)
+
+again : (b : List ℕ) (m : Content) → b ≡ messageBytes m → statementBytes (locate b m .statement) ++ (tagBytes (locate b m .tag .bytes) ++ locate b m .attachment .bytes) ≡ b
+unfolding locate
+again b m e =
+    let s = statementBytes (statementOf m) in
+    let t = tagBytes (tagOf m) in
+    let rest : drop (length s + length t) b ≡ attachmentBytes m = ap (drop (length s + length t)) e ∙ past s t (attachmentBytes m) in
+    ap (λ (z : List ℕ). s ++ (t ++ z)) rest ∙ sym e
+
+pub parts-are-the-packet : Parts-are-the-packet
+parts-are-the-packet limit b p bytes h =
+    let l = located b (messageOf limit b) p h in
+    subst (λ (q : Pieces Statement). statementBytes (q .statement) ++ (tagBytes (q .tag .bytes) ++ q .attachment .bytes) ≡ b) (l .2) (again b (l .0) (message-only limit b bytes (l .0) (l .1) .0))
 
 pub statements-told-apart : Statements-told-apart
 statements-told-apart = told-apart
@@ -65,9 +86,6 @@ put-in s a t = rw (take-at s a (length s) refl, drop-at s a (length s) refl)
 -- a draft with a tag put in behind its statement
 sealed-is : (t : List ℕ) (m : Content) → sealedBytes (draftBytes m) (length (statementBytes (statementOf m))) t ≡ messageBytes (withTag t m)
 sealed-is t m = put-in (statementBytes (statementOf m)) (attachmentBytes m) (tagBytes t) ∙ sym (with-tag t m)
-
-err-not-ok : {A : Type 0} {e : Refused} {x : A} → _≡_ {A = Result A Refused} (Err e) (Ok x) → ⊥
-err-not-ok h = let z : _≡_ {A = ℕ} 0 1 = cc in omega arith
 
 -- what a draft that is sealed went through
 record Passed (limit : ℕ) (draft tag out : List ℕ) (n : ℕ) : Type 0 where

@@ -51,6 +51,11 @@ abbrev pub One-byte-string : Type 0
 One-byte-string = (limit : ℕ) (b : List ℕ) (m : Content) → Bytes b → messageOf limit b ≡ Ok m
   → (b ≡ messageBytes m) × ContentFits limit m
 
+-- the parts that are read, written one behind the other, are the packet
+abbrev pub Parts-are-the-packet : Type 0
+Parts-are-the-packet = (limit : ℕ) (b : List ℕ) (p : Pieces Statement) → Bytes b → readingOf limit b ≡ Ok p
+  → statementBytes (p .statement) ++ (tagBytes (p .tag .bytes) ++ p .attachment .bytes) ≡ b
+
 -- two different statements never have the same bytes
 abbrev pub Statements-told-apart : Type 0
 Statements-told-apart = (s t : Statement) → StatementFits s → StatementFits t → statementBytes s ≡ statementBytes t → s ≡ t

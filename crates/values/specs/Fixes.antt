@@ -1,17 +1,21 @@
 -- Fixes, and the three words that write one.
-use mathlib.Core.Path.{_≡_}
 use mathlib.Core.Bool.{Bool, cond, _&&_}
-use Prim.Native.Nat.{ℕ, _^_, _<_}
+use Prim.Native.Nat.{ℕ, _/_, _%_}
 use lib.Dec.{leb}
-use lib.IntN.{ℤ, pos, negsuc}
+use lib.IntN.{ℤ, pos, negsuc, natAbs}
 use lib.Signed.{leZ}
-use mir.Val.{toZ, ofZ, SFits}
+use mir.Val.{toZ, ofZ}
 use mir.Syntax.{w32}
 use Rattle.std.specs.declared.result.Result.{Result}
 use Rattle.std.specs.declared.result.Result.the-variants.{Ok, Err}
 use Rattle.values.specs.declared.fix.Value.{Value}
+use Rattle.values.specs.declared.fix.Angle.{Angle}
 use Rattle.values.specs.declared.fix.Fix.{Fix}
 use Rattle.values.specs.Refusals.{Refused, illegal}
+
+-- a coordinate's size in degrees, minutes and 1/10,000 minutes
+abbrev pub angleOf : ℤ → Angle
+angleOf z = record { degrees = natAbs z / 600000; minutes = natAbs z / 10000 % 60; parts = natAbs z % 10000 }
 
 -- longitude and latitude are words in two's complement
 abbrev pub fixOf : Value → Fix

@@ -1,7 +1,7 @@
 // What sites agree on: three words of the line, and the fix that they write.
 ghost use mathlib.Core.Path.{_≡_};
 ghost use Rattle.values.specs.Refusals.{answered};
-ghost use Rattle.values.specs.Fixes.{fixOf, wordsOf, legalTrack, betweenZ, legal, legalAt};
+ghost use Rattle.values.specs.Fixes.{angleOf, fixOf, wordsOf, legalTrack, betweenZ, legal, legalAt};
 use super::refusal::Refusal;
 
 // Three words as they stand on the line. Records and messages keep these.
@@ -25,6 +25,24 @@ pub struct Fix {
 pub struct Report {
     pub view: u32,
     pub value: Value,
+}
+
+// How far a coordinate is from the first meridian or the equator: degrees, minutes,
+// and 1/10,000 minutes.
+#[derive(Clone, Copy)]
+pub struct Angle {
+    pub degrees: u32,
+    pub minutes: u32,
+    pub parts: u32,
+}
+
+impl Angle {
+    pub fn of(coordinate: i32) -> Angle
+        ensures { λ r. ⌜ r ≡ angleOf coordinate ⌝ }
+    {
+        let size = coordinate.unsigned_abs();
+        Angle { degrees: size / 600_000, minutes: size / 10_000 % 60, parts: size % 10_000 }
+    }
 }
 
 // The greatest longitude and latitude, either way.

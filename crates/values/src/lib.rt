@@ -3,6 +3,7 @@ mod fix;
 mod fleet;
 mod refusal;
 
+pub use fix::Angle;
 pub use fix::Fix;
 pub use fix::FixPartialEq;
 pub use fix::Report;
