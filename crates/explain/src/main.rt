@@ -27,30 +27,27 @@ fn tag_limit(rt: &LibcRuntime) -> Result<TagLimit, AnyError> {
 }
 
 // A packet, and what it holds.
-fn explain_packet(rt: &LibcRuntime, number: u64, text: &str, limit: TagLimit) -> Result<(), AnyError> {
+fn explain_packet(rt: &LibcRuntime, text: &str, limit: TagLimit) -> Result<(), AnyError> {
     match hex::decode(rt.alloc(), text.as_bytes()) {
-        Ok(packet) => {
-            print!(rt, "line {number}: ")?;
-            show_packet(rt, Shown { packet: packet.as_slice(), limit, indent: "  " })
-        }
-        Err(bad) => bad_line(rt, number, bad),
+        Ok(packet) => show_packet(rt, Shown { packet: packet.as_slice(), limit, indent: "  " }),
+        Err(bad) => show_bad_text(rt, bad),
     }
 }
 
 // A draft and a tag: the message that sealing makes of them, read back.
-fn explain_draft(rt: &LibcRuntime, number: u64, draft: &str, tag: &str, limit: TagLimit) -> Result<(), AnyError> {
+fn explain_draft(rt: &LibcRuntime, draft: &str, tag: &str, limit: TagLimit) -> Result<(), AnyError> {
     let heap = rt.alloc();
     let draft = match hex::decode(heap, draft.as_bytes()) {
         Ok(bytes) => bytes,
-        Err(bad) => return bad_line(rt, number, bad),
+        Err(bad) => return show_bad_text(rt, bad),
     };
     let tag = match hex::decode(heap, tag.as_bytes()) {
         Ok(bytes) => bytes,
-        Err(bad) => return bad_line(rt, number, bad),
+        Err(bad) => return show_bad_text(rt, bad),
     };
     let drafted = draft.len();
     let tagged = tag.len();
-    println!(rt, "line {number}: draft of {drafted} bytes, tag of {tagged} bytes")?;
+    println!(rt, "draft of {drafted} bytes, tag of {tagged} bytes")?;
     let mut out = vec![in heap; 0u8; drafted.saturating_add(limit.bytes() + 4)]?;
     match seal(draft.as_slice(), tag.as_slice(), limit, out.as_mut_slice()) {
         Ok(len) => show_sealed(rt, out.as_slice(), len, limit),
@@ -72,11 +69,11 @@ fn show_sealed(rt: &LibcRuntime, out: &[u8], len: usize, limit: TagLimit) -> Res
     show_packet(rt, Shown { packet, limit, indent: "    " })
 }
 
-fn bad_line(rt: &LibcRuntime, number: u64, bad: BadText) -> Result<(), AnyError> {
+fn show_bad_text(rt: &LibcRuntime, bad: BadText) -> Result<(), AnyError> {
     match bad {
-        BadText::NoDigit { at } => println!(rt, "line {number}: bad line: no hexadecimal digit at character {at}")?,
-        BadText::HalfByte => println!(rt, "line {number}: bad line: half a byte is left over")?,
-        BadText::NoMemory => println!(rt, "line {number}: no memory for this line")?,
+        BadText::NoDigit { at } => println!(rt, "bad line: no hexadecimal digit at character {at}")?,
+        BadText::HalfByte => println!(rt, "bad line: half a byte is left over")?,
+        BadText::NoMemory => println!(rt, "no memory for this line")?,
     }
     Ok(())
 }
@@ -90,9 +87,10 @@ fn explain_line(rt: &LibcRuntime, number: u64, line: &str, limit: TagLimit) -> R
     if hex::is_blank(text.as_bytes()) {
         return Ok(());
     }
+    print!(rt, "line {number}: ")?;
     match text.split_once('+') {
-        Some((draft, tag)) => explain_draft(rt, number, draft, tag, limit),
-        None => explain_packet(rt, number, text, limit),
+        Some((draft, tag)) => explain_draft(rt, draft, tag, limit),
+        None => explain_packet(rt, text, limit),
     }
 }
 

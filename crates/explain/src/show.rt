@@ -17,6 +17,7 @@ use wire::Part;
 use wire::ViewChange;
 use wire::entry_at;
 use wire::envelope_at;
+use wire::shortest;
 use wire::word_at;
 
 // A packet to be shown, and what stands before each line.
@@ -34,8 +35,29 @@ pub fn show_packet(rt: &LibcRuntime, shown: Shown<'_>) -> Result<(), AnyError> {
             show_message(rt, shown, message)?;
             show_rewritten(rt, shown, message)
         }
-        Err(refusal) => show_refusal(rt, refusal),
+        Err(refusal) => {
+            show_refusal(rt, refusal)?;
+            show_shortest(rt, shown)
+        }
     }
+}
+
+// What may be wrong where a layout is broken.
+const LAYOUT: &str = "the layout is broken there: a word or a tag is cut, a kind is unknown or not allowed, a bool is above 1, a count is above 16, a tag is too long or filled wrongly, or bytes are left over";
+
+// How long the packet should have been at least, if its kind is known.
+fn show_shortest(rt: &LibcRuntime, shown: Shown<'_>) -> Result<(), AnyError> {
+    let len = shown.packet.len();
+    let Ok(kind) = word_at(shown.packet, 0) else {
+        return Ok(());
+    };
+    if let Some(least) = shortest(kind) {
+        if len < least {
+            show_margin(rt, shown, "")?;
+            println!(rt, "it has {len} bytes, and kind {kind} at least {least}")?;
+        }
+    }
+    Ok(())
 }
 
 fn show_message(rt: &LibcRuntime, shown: Shown<'_>, message: Message<'_>) -> Result<(), AnyError> {
@@ -62,27 +84,37 @@ fn show_message(rt: &LibcRuntime, shown: Shown<'_>, message: Message<'_>) -> Res
 }
 
 fn show_claim(rt: &LibcRuntime, shown: Shown<'_>, kind: &str, claim: Claim, tag: Part<'_>) -> Result<(), AnyError> {
-    let indent = shown.indent;
     let len = shown.packet.len();
     println!(rt, "{kind}, {len} bytes")?;
     show_head(rt, shown, "", claim.head)?;
-    print!(rt, "{indent}")?;
+    show_margin(rt, shown, "")?;
     show_fix(rt, claim.value)?;
     show_tag(rt, shown, "", tag)
 }
 
-fn show_head(rt: &LibcRuntime, shown: Shown<'_>, more: &str, head: Head) -> Result<(), AnyError> {
+// What stands before a line; inner lines have more.
+fn show_margin(rt: &LibcRuntime, shown: Shown<'_>, more: &str) -> Result<(), AnyError> {
     let indent = shown.indent;
+    print!(rt, "{indent}{more}")?;
+    Ok(())
+}
+
+fn show_head(rt: &LibcRuntime, shown: Shown<'_>, more: &str, head: Head) -> Result<(), AnyError> {
+    show_margin(rt, shown, more)?;
     let Head { round, view, site } = head;
-    println!(rt, "{indent}{more}round {round}, view {view}, site {site}")?;
+    println!(rt, "round {round}, view {view}, site {site}")?;
     Ok(())
 }
 
 fn show_tag(rt: &LibcRuntime, shown: Shown<'_>, more: &str, tag: Part<'_>) -> Result<(), AnyError> {
-    let indent = shown.indent;
+    show_margin(rt, shown, more)?;
+    show_part(rt, tag)
+}
+
+fn show_part(rt: &LibcRuntime, tag: Part<'_>) -> Result<(), AnyError> {
     let len = tag.bytes.len();
     let place = tag.place;
-    println!(rt, "{indent}{more}tag of {len} bytes at {place}")?;
+    println!(rt, "tag of {len} bytes at {place}")?;
     Ok(())
 }
 
@@ -116,14 +148,15 @@ fn show_change(rt: &LibcRuntime, shown: Shown<'_>, more: &str, change: ViewChang
 }
 
 fn show_report(rt: &LibcRuntime, shown: Shown<'_>, more: &str, what: &str, report: Option<Report>) -> Result<(), AnyError> {
-    let indent = shown.indent;
+    show_margin(rt, shown, more)?;
+    print!(rt, "{what} ")?;
     match report {
         None => {
-            println!(rt, "{indent}{more}{what} nothing")?;
+            println!(rt, "nothing")?;
             Ok(())
         }
         Some(Report { view, value }) => {
-            print!(rt, "{indent}{more}{what} in view {view} ")?;
+            print!(rt, "in view {view} ")?;
             show_fix(rt, value)
         }
     }
@@ -131,38 +164,32 @@ fn show_report(rt: &LibcRuntime, shown: Shown<'_>, more: &str, what: &str, repor
 
 // A commit certificate: a line for each entry, indented under it.
 fn show_certificate(rt: &LibcRuntime, shown: Shown<'_>, more: &str, place: usize) -> Result<(), AnyError> {
-    let indent = shown.indent;
     let Ok(count) = word_at(shown.packet, place) else {
         return Ok(());
     };
-    println!(rt, "{indent}{more}commit certificate at {place}, {count} entries")?;
+    show_margin(rt, shown, more)?;
+    println!(rt, "commit certificate at {place}, {count} entries")?;
     let mut next = place + 4;
     for _i in 0..count {
         let Ok((entry, end)) = entry_at(shown.packet, next, shown.limit) else {
             return Ok(());
         };
         let site = entry.site;
-        print!(rt, "{indent}{more}  site {site}, ")?;
-        show_tag_inline(rt, entry.tag)?;
+        show_margin(rt, shown, more)?;
+        print!(rt, "  site {site}, ")?;
+        show_part(rt, entry.tag)?;
         next = end;
     }
     Ok(())
 }
 
-fn show_tag_inline(rt: &LibcRuntime, tag: Part<'_>) -> Result<(), AnyError> {
-    let len = tag.bytes.len();
-    let place = tag.place;
-    println!(rt, "tag of {len} bytes at {place}")?;
-    Ok(())
-}
-
 // A progress certificate: each new-view, indented under it.
 fn show_progress(rt: &LibcRuntime, shown: Shown<'_>, place: usize) -> Result<(), AnyError> {
-    let indent = shown.indent;
     let Ok(count) = word_at(shown.packet, place) else {
         return Ok(());
     };
-    println!(rt, "{indent}progress certificate at {place}, {count} entries")?;
+    show_margin(rt, shown, "")?;
+    println!(rt, "progress certificate at {place}, {count} entries")?;
     let mut next = place + 4;
     for _i in 0..count {
         next = match show_new_view(rt, shown, next)? {
@@ -175,11 +202,11 @@ fn show_progress(rt: &LibcRuntime, shown: Shown<'_>, place: usize) -> Result<(),
 
 // A new-view inside a progress certificate, and the place behind it.
 fn show_new_view(rt: &LibcRuntime, shown: Shown<'_>, place: usize) -> Result<Option<usize>, AnyError> {
-    let indent = shown.indent;
     let Ok((entry, end)) = envelope_at::<NewView>(shown.packet, place, shown.limit) else {
         return Ok(None);
     };
-    println!(rt, "{indent}  new-view at {place}")?;
+    show_margin(rt, shown, "  ")?;
+    println!(rt, "new-view at {place}")?;
     show_change(rt, shown, "    ", entry.statement, entry.tag)?;
     if entry.statement.committed.is_some() {
         show_certificate(rt, shown, "    ", entry.attachment.place)?;
@@ -189,30 +216,36 @@ fn show_new_view(rt: &LibcRuntime, shown: Shown<'_>, place: usize) -> Result<Opt
 
 // The message written again, and compared with the packet.
 fn show_rewritten(rt: &LibcRuntime, shown: Shown<'_>, message: Message<'_>) -> Result<(), AnyError> {
-    let indent = shown.indent;
     let mut out = vec![in rt.alloc(); 0u8; shown.packet.len()]?;
     match write(message, shown.limit, out.as_mut_slice()) {
         Ok(len) => {
             let same = if out.as_slice() == shown.packet { "the same" } else { "OTHER" };
-            println!(rt, "{indent}written back, {same} {len} bytes")?;
+            show_margin(rt, shown, "")?;
+            println!(rt, "written back, {same} {len} bytes")?;
             Ok(())
         }
         Err(refusal) => show_refusal(rt, refusal),
     }
 }
 
+// What a refusal means.
+fn meaning(refusal: Refusal) -> &'static str {
+    match refusal {
+        Refusal::Limits => "outside the limits of a fleet or a tag",
+        Refusal::Short => "a buffer is too short",
+        Refusal::Layout { .. } => LAYOUT,
+        Refusal::IllegalFix { .. } => "the fix there is not legal",
+    }
+}
+
 // A refusal's number, its place if it has one, and what it means.
 pub fn show_refusal(rt: &LibcRuntime, refusal: Refusal) -> Result<(), AnyError> {
     let number = refusal.number();
-    let meaning = match refusal {
-        Refusal::Limits => "outside the limits of a fleet or a tag",
-        Refusal::Short => "a buffer is too short",
-        Refusal::Layout { .. } => "the layout is broken there",
-        Refusal::IllegalFix { .. } => "the fix there is not legal",
-    };
-    match refusal.place() {
-        Some(place) => println!(rt, "refused with {number} at {place}: {meaning}")?,
-        None => println!(rt, "refused with {number}: {meaning}")?,
+    print!(rt, "refused with {number}")?;
+    if let Some(place) = refusal.place() {
+        print!(rt, " at {place}")?;
     }
+    let meaning = meaning(refusal);
+    println!(rt, ": {meaning}")?;
     Ok(())
 }

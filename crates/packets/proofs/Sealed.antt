@@ -129,20 +129,23 @@ report-long : (o : Option Report) → 4 ≤ length (reportBytes o)
 report-long None = omega arith
 report-long (Some r) = omega arith
 
-long-enough : (m : Content) → shortestOf (kindOf (statementOf m)) ≤ length (messageBytes m)
-unfolding turnBytes
-long-enough (propose c t ms) = omega (arith, length-append (tagBytes t) (progressBytes ms), length-tag t)
-long-enough (prepare c t) = omega (arith, length-append (tagBytes t) [], length-tag t)
-long-enough (commit c t vs) = omega (arith, length-append (tagBytes t) (certificateBytes vs), length-tag t)
+-- a message of its kind, and no shorter
+abbrev Long : Content → ℕ → Type 0
+Long m n = (k : ℕ) × (shortestOf (kindOf (statementOf m)) ≡ Some k) × (k ≤ n)
+
+long-enough : (m : Content) → Long m (length (messageBytes m))
+long-enough (propose c t ms) = (36, refl, omega (arith, length-append (tagBytes t) (progressBytes ms), length-tag t))
+long-enough (prepare c t) = (32, refl, omega (arith, length-append (tagBytes t) [], length-tag t))
+long-enough (commit c t vs) = (36, refl, omega (arith, length-append (tagBytes t) (certificateBytes vs), length-tag t))
 long-enough (new-view m) =
     let p = reportBytes (m .prepared) in
     let q = reportBytes (reported (m .committed)) in
     let t = tagBytes (m .tag) in
     let v = certifiedBytes (m .committed) in
-    omega (arith, length-append (p ++ q) (t ++ v), length-append p q, length-append t v, length-tag (m .tag), report-long (m .prepared), report-long (reported (m .committed)))
+    (28, refl, omega (arith, length-append (p ++ q) (t ++ v), length-append p q, length-append t v, length-tag (m .tag), report-long (m .prepared), report-long (reported (m .committed))))
 
 pub shortest : Shortest
-shortest = (λ limit b m bytes h. rw (message-only limit b bytes m h .0) (long-enough m), λ c. (refl, refl, refl))
+shortest = (λ limit b m bytes h. rw (message-only limit b bytes m h .0) (long-enough m), λ h v. (refl, refl, refl, refl))
 
 pub fixes-are-words : Fixes-are-words
 fixes-are-words =

@@ -5,6 +5,8 @@ use Prim.Native.Nat.{ℕ, _+_, _^_, _≤_, _<_}
 use lib.ListN.{length, take, getD}
 use mir.Val.{SFits}
 use mir.Syntax.{w32}
+use Rattle.std.specs.declared.option.Option.{Option}
+use Rattle.std.specs.declared.option.Option.the-variants.{Some, None}
 use Rattle.std.specs.declared.result.Result.{Result}
 use Rattle.std.specs.declared.result.Result.the-variants.{Ok, Err}
 use Rattle.values.specs.declared.fix.Value.{Value}
@@ -12,7 +14,7 @@ use Rattle.values.specs.declared.fix.Fix.{Fix}
 use Rattle.values.specs.Fixes.{fixOf, wordsOf}
 use Rattle.values.specs.Refusals.{Refused, layout}
 use Rattle.wire.specs.declared.words.Malformed.{Malformed}
-use Rattle.wire.specs.declared.statement.Claim.{Claim}
+use Rattle.wire.specs.declared.statement.Head.{Head}
 use Rattle.wire.specs.declared.statement.Statement.{Statement}
 use Rattle.wire.specs.Contents.{kindOf, statementBytes, tagBytes, Turn, Content, propose, prepare, commit, new-view, statementOf, tagOf, attachmentBytes, messageBytes, draftBytes, withTag}
 use Rattle.wire.specs.Layout.{messageOf}
@@ -73,8 +75,12 @@ Drafts-are-sealed = (limit : ℕ) (m : Content) (tag out : List ℕ) → limit �
 -- no message is shorter than the shortest of its kind, and there is one so short
 abbrev pub Shortest : Type 0
 Shortest =
-  ((limit : ℕ) (b : List ℕ) (m : Content) → Bytes b → messageOf limit b ≡ Ok m → shortestOf (kindOf (statementOf m)) ≤ length b)
-  × ((c : Claim) → (length (messageBytes (propose c [] [])) ≡ shortestOf 1) × (length (messageBytes (prepare c [])) ≡ shortestOf 2) × (length (messageBytes (commit c [] [])) ≡ shortestOf 3))
+  ((limit : ℕ) (b : List ℕ) (m : Content) → Bytes b → messageOf limit b ≡ Ok m → (n : ℕ) × (shortestOf (kindOf (statementOf m)) ≡ Some n) × (n ≤ length b))
+  × ((h : Head) (v : Value) →
+      (Some (length (messageBytes (propose (record { head = h; value = v }) [] []))) ≡ shortestOf 1)
+      × (Some (length (messageBytes (prepare (record { head = h; value = v }) []))) ≡ shortestOf 2)
+      × (Some (length (messageBytes (commit (record { head = h; value = v }) [] []))) ≡ shortestOf 3)
+      × (Some (length (messageBytes (new-view (record { head = h; prepared = None; committed = None; tag = [] })))) ≡ shortestOf 4))
 
 -- three words are read as one fix, and one fix is written as three words
 abbrev pub Fixes-are-words : Type 0

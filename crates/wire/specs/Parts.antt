@@ -6,6 +6,8 @@ use lib.Dec.{leb, eqb}
 use lib.ListN.{length, take, drop}
 use Rattle.std.specs.declared.result.Result.{Result}
 use Rattle.std.specs.declared.result.Result.the-variants.{Ok, Err}
+use Rattle.std.specs.declared.option.Option.{Option}
+use Rattle.std.specs.declared.option.Option.the-variants.{Some, None}
 use Rattle.wire.specs.declared.words.Malformed.{Malformed}
 use Rattle.wire.specs.declared.tag.Part.{Part}
 use Rattle.wire.specs.declared.certificate.Entry.{Entry}
@@ -87,9 +89,9 @@ partsAt kind statement attachment limit b at =
 abbrev pub draftPlace : {S : Type 0} → ℕ → (ℕ → Result (S × ℕ) Malformed) → (S → ℕ → Result ℕ Malformed) → List ℕ → Result ℕ Malformed
 draftPlace kind statement attachment b = wholly b (envelopeAt kind statement nothingAt (λ s k. ended (attachment s k)) (λ s t a. s .1) b 0)
 
--- the shortest message of each kind
-abbrev pub shortestOf : ℕ → ℕ
-shortestOf k = cond (eqb k 1) 36 (cond (eqb k 2) 32 (cond (eqb k 3) 36 28))
+-- the length of the shortest message of each kind
+abbrev pub shortestOf : ℕ → Option ℕ
+shortestOf k = cond (eqb k 1) (Some 36) (cond (eqb k 2) (Some 32) (cond (eqb k 3) (Some 36) (cond (eqb k 4) (Some 28) None)))
 
 -- ---- whole messages ----
 

@@ -3,6 +3,7 @@ ghost use mathlib.Core.Path.{_≡_};
 ghost use mathlib.Core.List.{List};
 ghost use Prim.Native.Nat.{ℕ, _+_, _≤_};
 ghost use lib.ListN.{length};
+ghost use Rattle.std.specs.declared.option.Option.the-variants.{Some};
 ghost use Rattle.std.specs.declared.result.Result.{Result};
 ghost use Rattle.std.specs.declared.result.Result.the-variants.{Ok};
 ghost use Rattle.std.specs.Vec.{made};
@@ -42,7 +43,7 @@ pub trait Kind {
         ensures { λ r. ⌜ r ≡ number ⌝ };
 
     fn shortest_length() -> usize
-        ensures { λ r. ⌜ r ≡ shortestOf number ⌝ };
+        ensures { λ r. ⌜ Some r ≡ shortestOf number ⌝ };
 
     // The statement behind a kind word, and the place behind it.
     fn statement_at(packet: &[u8], at: usize) -> Result<(Self::Record, usize), Malformed>
@@ -225,5 +226,18 @@ pub impl Kind for Propose as ProposeKind {
 
     fn attachment_end(_said: Claim, packet: &[u8], at: usize, limit: TagLimit) -> Result<usize, Malformed> {
         progress_end(packet, at, limit)
+    }
+}
+
+// The length of the shortest message of a kind.
+pub fn shortest(kind: u32) -> Option<usize>
+    ensures { λ r. ⌜ r ≡ shortestOf kind ⌝ }
+{
+    match kind {
+        Propose::NUMBER => Some(Propose::SHORTEST),
+        Prepare::NUMBER => Some(Prepare::SHORTEST),
+        Commit::NUMBER => Some(Commit::SHORTEST),
+        NewView::NUMBER => Some(NewView::SHORTEST),
+        _ => None,
     }
 }

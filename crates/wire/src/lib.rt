@@ -24,6 +24,7 @@ pub use kind::PrepareKind;
 pub use kind::Propose;
 pub use kind::ProposeKind;
 pub use kind::envelope_at;
+pub use kind::shortest;
 pub use message::Message;
 pub use message::draft_end;
 pub use message::read_message;
