@@ -10,14 +10,14 @@ use values::TagLimit;
 use values::Value;
 use wire::Claim;
 use wire::Head;
-use wire::Message;
-use wire::NewView;
-use wire::NewViewKind;
+use messages::Message;
+use messages::NewView;
+use messages::NewViewKind;
 use wire::Part;
 use wire::ViewChange;
 use wire::entry_at;
-use wire::envelope_at;
-use wire::shortest;
+use messages::envelope_at;
+use messages::shortest;
 use wire::word_at;
 
 // A packet to be shown, and what stands before each line.

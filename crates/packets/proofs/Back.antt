@@ -25,7 +25,7 @@ use Rattle.wire.specs.Contents.{valueBytes, headBytes, reportBytes, claimBytes,
 use Rattle.wire.specs.Layout.{valueAt, headAt, reportAt, claimAt, changeAt, zeros, tagAt, manyAt, voteAt, votesAt, certifiedAt, envelopeAt, turnAt, progressAt, nothingAt, proposeOf, prepareOf, commitOf, newViewOf, messageOf, wholly, draftBy, draftEnd}
 use Rattle.wire.proofs.Results.{ok-same}
 use Rattle.wire.proofs.Lengths.{length-tag}
-use Rattle.wire.proofs.Envelopes.{envelope-on}
+use Rattle.messages.proofs.Envelopes.{envelope-on}
 use Rattle.packets.specs.Fits.{ValueFits, HeadFits, ReportFits, ClaimFits, ChangeFits, StatementFits, VotesFit, CertificateFits, CertifiedFits, TurnFits, TurnsFit, ContentFits}
 use Rattle.packets.proofs.Held.{Held, front, next, whole, word-back}
 

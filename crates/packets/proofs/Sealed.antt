@@ -26,7 +26,7 @@ use Rattle.wire.specs.declared.statement.Claim.{Claim}
 use Rattle.wire.specs.declared.statement.Statement.{Statement}
 use Rattle.wire.specs.Contents.{kindOf, statementBytes, reportBytes, tagBytes, certificateBytes, certifiedBytes, reported, changeOf, turnBytes, progressBytes, Content, propose, prepare, commit, new-view, statementOf, tagOf, attachmentBytes, messageBytes, draftBytes, withTag}
 use Rattle.wire.specs.Layout.{messageOf, draftEnd}
-use Rattle.wire.specs.Parts.{Pieces, mapOk, locate, shortestOf}
+use Rattle.messages.specs.Parts.{Pieces, mapOk, locate, shortestOf}
 use Rattle.wire.proofs.Lengths.{length-tag}
 use Rattle.writing.specs.Written.{refusing, sealedBytes, sealingBy, sealing}
 use Rattle.packets.specs.Fits.{ValueFits, ContentFits, Bytes}

@@ -18,7 +18,7 @@ use Rattle.wire.specs.declared.statement.Head.{Head}
 use Rattle.wire.specs.declared.statement.Statement.{Statement}
 use Rattle.wire.specs.Contents.{kindOf, statementBytes, tagBytes, Turn, Content, propose, prepare, commit, new-view, statementOf, tagOf, attachmentBytes, messageBytes, draftBytes, withTag}
 use Rattle.wire.specs.Layout.{messageOf}
-use Rattle.wire.specs.Parts.{Pieces, mapOk, locate, shortestOf}
+use Rattle.messages.specs.Parts.{Pieces, mapOk, locate, shortestOf}
 use Rattle.writing.specs.Written.{sealing}
 use Rattle.packets.specs.Fits.{ValueFits, StatementFits, ContentFits, Bytes}
 

@@ -1,15 +1,15 @@
 // What the library offers for packets: reading, writing and sealing, with their laws.
 ghost use mathlib.Core.Path.{_≡_};
 ghost use Rattle.values.specs.Refusals.{answered};
-ghost use Rattle.wire.specs.Parts.{told};
+ghost use Rattle.messages.specs.Parts.{told};
 ghost use Rattle.writing.specs.Written.{drafting, sending, sealing};
 ghost use Rattle.packets.specs.Laws.{readingOf, Written-reads-back, One-byte-string, Parts-are-the-packet, Statements-told-apart, Sealed-reads-back, Drafts-are-sealed, Shortest, Fixes-are-words};
 use values::Refusal;
 use values::TagLimit;
-use wire::Message;
+use messages::Message;
 use wire::RefusalFromMalformed;
 use wire::Statement;
-use wire::read_message;
+use messages::read_message;
 use writing::write_message;
 
 // Which of the four messages a packet is, with its parts and their places.

@@ -9,7 +9,7 @@ use Rattle.std.specs.declared.result.Result.the-variants.{Ok, Err}
 use Rattle.wire.specs.declared.words.Malformed.{Malformed}
 use Rattle.wire.specs.Words.{bind, fault, wordAt}
 use Rattle.wire.specs.Layout.{manyAt, countedAt}
-use Rattle.wire.specs.Parts.{behind, manyEnd, countedEnd}
+use Rattle.wire.specs.Places.{behind, manyEnd, countedEnd}
 
 -- one turn of a loop over them
 module _ (one : ℕ → Result ℕ Malformed) where

@@ -7,7 +7,6 @@ use Rattle.std.specs.declared.result.Result.{Result}
 use Rattle.std.specs.declared.result.Result.the-variants.{Ok, Err}
 use Rattle.wire.specs.declared.words.Malformed.{Malformed}
 use Rattle.wire.specs.Words.{bind, fault}
-use Rattle.wire.specs.Parts.{mapOk}
 
 pub bind-ok : {A B : Type 0} (r : Result A Malformed) (k : A → Result B Malformed) (y : B) → bind r k ≡ Ok y → (x : A) × (r ≡ Ok x) × (k x ≡ Ok y)
 bind-ok (Ok x) k y e = (x, refl, e)
@@ -19,7 +18,3 @@ cond-ok false r at y e = let z : _≡_ {A = ℕ} 0 1 = cc in absurd (omega arith
 
 pub ok-same : {A : Type 0} {x y : A} → _≡_ {A = Result A Malformed} (Ok x) (Ok y) → x ≡ y
 ok-same e = cc
-
-pub mapOk-same : {A : Type 0} (r : Result A Malformed) → mapOk (λ x. x) r ≡ r
-mapOk-same (Ok x) = refl
-mapOk-same (Err e) = refl

@@ -1,4 +1,4 @@
 pub mod Words
 pub mod Contents
 pub mod Layout
-pub mod Parts
+pub mod Places

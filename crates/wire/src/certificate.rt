@@ -7,7 +7,7 @@ ghost use Rattle.std.specs.declared.result.Result.{Result};
 ghost use Rattle.std.specs.Vec.{made};
 ghost use Rattle.wire.specs.declared.words.Malformed.{Malformed};
 ghost use Rattle.wire.specs.Layout.{voteAt, votesAt};
-ghost use Rattle.wire.specs.Parts.{Inside, behind, countedEnd, entryRead};
+ghost use Rattle.wire.specs.Places.{Inside, behind, countedEnd, entryRead};
 use super::tag::Part;
 use super::tag::tag_at;
 use super::words::Malformed;

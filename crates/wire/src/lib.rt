@@ -1,7 +1,5 @@
-// Packets on the line: words, tags, certificates, and the four messages, read from lent bytes.
+// What stands in a packet: words, tags, statements and commit certificates, read from lent bytes.
 mod certificate;
-mod kind;
-mod message;
 mod statement;
 mod tag;
 mod words;
@@ -13,21 +11,6 @@ pub use certificate::Entry;
 pub use certificate::certificate_end;
 pub use certificate::counted_end;
 pub use certificate::entry_at;
-pub use kind::Commit;
-pub use kind::CommitKind;
-pub use kind::Envelope;
-pub use kind::Kind;
-pub use kind::NewView;
-pub use kind::NewViewKind;
-pub use kind::Prepare;
-pub use kind::PrepareKind;
-pub use kind::Propose;
-pub use kind::ProposeKind;
-pub use kind::envelope_at;
-pub use kind::shortest;
-pub use message::Message;
-pub use message::draft_end;
-pub use message::read_message;
 pub use statement::Claim;
 pub use statement::Head;
 pub use statement::Statement;

@@ -3,7 +3,7 @@ ghost use mathlib.Core.Path.{_≡_};
 ghost use Prim.Native.Nat.{_+_, _≤_};
 ghost use lib.ListN.{length};
 ghost use Rattle.std.specs.Vec.{made};
-ghost use Rattle.wire.specs.Parts.{Inside};
+ghost use Rattle.wire.specs.Places.{Inside};
 ghost use Rattle.wire.specs.Layout.{valueAt, headAt, reportAt, claimAt, changeAt};
 use super::words::Malformed;
 use super::words::word_at;

@@ -5,7 +5,7 @@ ghost use lib.ListN.{length};
 ghost use Rattle.std.specs.Vec.{made};
 ghost use Rattle.wire.specs.Contents.{padded};
 ghost use Rattle.wire.specs.Layout.{zeros, tagAt};
-ghost use Rattle.wire.specs.Parts.{Inside, tagRead};
+ghost use Rattle.wire.specs.Places.{Inside, tagRead};
 use super::words::Malformed;
 use super::words::word_at;
 use values::TagLimit;

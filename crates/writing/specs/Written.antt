@@ -11,7 +11,7 @@ use Rattle.wire.specs.declared.words.Malformed.{Malformed}
 use Rattle.wire.specs.declared.statement.Statement.{Statement}
 use Rattle.wire.specs.Contents.{statementBytes, tagBytes}
 use Rattle.wire.specs.Layout.{draftEnd}
-use Rattle.wire.specs.Parts.{Pieces}
+use Rattle.messages.specs.Parts.{Pieces}
 
 -- a refusal leaves out as it was
 abbrev pub refusing : Refused → List ℕ → Result ℕ Refused × List ℕ

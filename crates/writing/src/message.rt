@@ -4,7 +4,7 @@ ghost use Prim.Native.Nat.{_+_};
 ghost use lib.Dec.{leb};
 ghost use lib.ListN.{length};
 ghost use Rattle.values.specs.Refusals.{answered};
-ghost use Rattle.wire.specs.Parts.{told};
+ghost use Rattle.messages.specs.Parts.{told};
 ghost use Rattle.writing.specs.Written.{drafting, sendingOf, sending, sealing};
 use super::pieces::put;
 use super::pieces::put_statement;
@@ -12,10 +12,10 @@ use super::pieces::put_tag;
 use super::pieces::statement_length;
 use values::Refusal;
 use values::TagLimit;
-use wire::Message;
+use messages::Message;
 use wire::RefusalFromMalformed;
 use wire::Statement;
-use wire::draft_end;
+use messages::draft_end;
 use wire::pad;
 
 fn has_room(out: &[u8], first: usize, second: usize) -> bool

@@ -1,7 +1,7 @@
 use mathlib.Core.Path.{_≡_}
 use Prim.Native.Nat.{_+_, _-_, _≤_}
 use lib.ListN.{length}
-use Rattle.wire.specs.Parts.{manyEnd}
+use Rattle.wire.specs.Places.{manyEnd}
 use Rattle.wire.proofs.certificate.counted_end.Given as given
 
 -- what is left ends where the whole does

@@ -1,6 +1,6 @@
 use borrow.Author.Needs.{needs}
 use Rattle.wire.specs.Layout.{messageOf}
-use Rattle.wire.proofs.message.read_message.Needs as need
+use Rattle.messages.proofs.message.read_message.Needs as need
 
 pub returns-in-Break-word-at : need.returns-in-Break-word-at
 unfolding messageOf

@@ -8,11 +8,15 @@ use lib.ListN.{length}
 use Rattle.std.proofs.shelf.Tests.{eqb-true}
 use Rattle.std.specs.declared.result.Result.{Result}
 use Rattle.std.specs.declared.result.Result.the-variants.{Ok, Err}
 use Rattle.wire.specs.declared.words.Malformed.{Malformed}
 use Rattle.wire.specs.Words.{bind, fault, wordAt}
 use Rattle.wire.specs.Layout.{kindAt, envelopeAt, nothingAt, draftAs, wholly}
-use Rattle.wire.specs.Parts.{behind, ended, mapOk, draftPlace}
-use Rattle.wire.proofs.Results.{mapOk-same}
+use Rattle.wire.specs.Places.{behind}
+use Rattle.messages.specs.Parts.{ended, mapOk, draftPlace}
+
+pub mapOk-same : {A : Type 0} (r : Result A Malformed) → mapOk (λ x. x) r ≡ r
+mapOk-same (Ok x) = refl
+mapOk-same (Err e) = refl
 
 -- an envelope from its tag on, from its statement on, and from its kind on
 module _ {S T A M : Type 0} (st : ℕ → Result (S × ℕ) Malformed) (tag : ℕ → Result (T × ℕ) Malformed) (att : S → ℕ → Result (A × ℕ) Malformed) (make : S × ℕ → T × ℕ → A × ℕ → M) where

@@ -1,8 +1,8 @@
 use borrow.Author.Needs.{needs}
 use mathlib.Core.Path.{sym, ap, _∙_}
-use Rattle.wire.specs.Parts.{behind}
-use Rattle.wire.proofs.Located.{turn-behind}
-use Rattle.wire.proofs.kind.NewViewsCounted.end.Needs as need
+use Rattle.wire.specs.Places.{behind}
+use Rattle.messages.proofs.Located.{turn-behind}
+use Rattle.messages.proofs.kind.NewViewsCounted.end.Needs as need
 
 pub returns-in-Break-end : need.returns-in-Break-end
 returns-in-Break-end c =

@@ -1,7 +1,7 @@
 use mathlib.Core.Path.{_∙_}
 use Rattle.wire.specs.Layout.{turnAt, progressAt}
 use Rattle.wire.proofs.Many.{counted-behind}
-use Rattle.wire.proofs.kind.progress_end.Needs as need
+use Rattle.messages.proofs.kind.progress_end.Needs as need
 
 pub returns : need.returns
 unfolding progressAt

@@ -1,8 +1,8 @@
 use borrow.Author.Needs.{needs}
 use mathlib.Core.Path.{sym, ap, _∙_}
-use Rattle.wire.specs.Parts.{mapOk}
-use Rattle.wire.proofs.Located.{bare, prepare-located}
-use Rattle.wire.proofs.message.read_prepare.Needs as need
+use Rattle.messages.specs.Parts.{mapOk}
+use Rattle.messages.proofs.Located.{bare, prepare-located}
+use Rattle.messages.proofs.message.read_prepare.Needs as need
 
 pub returns-in-Break-statement : need.returns-in-Break-statement
 returns-in-Break-statement c =

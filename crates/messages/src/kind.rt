@@ -7,20 +7,21 @@ ghost use Rattle.std.specs.declared.option.Option.the-variants.{Some};
 ghost use Rattle.std.specs.declared.result.Result.{Result};
 ghost use Rattle.std.specs.declared.result.Result.the-variants.{Ok};
 ghost use Rattle.std.specs.Vec.{made};
 ghost use Rattle.wire.specs.declared.words.Malformed.{Malformed};
 ghost use Rattle.wire.specs.Layout.{claimAt, changeAt, votesAt, certifiedAt, progressAt, turnAt};
-ghost use Rattle.wire.specs.Parts.{Inside, behind, envelopeRead, partsAt, shortestOf};
-use super::certificate::Counted;
-use super::certificate::certificate_end;
-use super::certificate::counted_end;
-use super::statement::Claim;
-use super::statement::ViewChange;
-use super::statement::claim_at;
-use super::statement::view_change_at;
-use super::tag::Part;
-use super::tag::tag_at;
-use super::words::Malformed;
-use super::words::word_at;
+ghost use Rattle.wire.specs.Places.{Inside, behind};
+ghost use Rattle.messages.specs.Parts.{envelopeRead, partsAt, shortestOf};
+use wire::Counted;
+use wire::certificate_end;
+use wire::counted_end;
+use wire::Claim;
+use wire::ViewChange;
+use wire::claim_at;
+use wire::view_change_at;
+use wire::Part;
+use wire::tag_at;
+use wire::Malformed;
+use wire::word_at;
 use values::Report;
 use values::TagLimit;
 
@@ -57,7 +58,7 @@ pub trait Kind {
 }
 
 // A message of one kind, taken apart.
-#[derive(Clone, Copy)]
+#[derive(Drop)]
 pub struct Envelope<'a, R> {
     pub statement: R,
     pub tag: Part<'a>,

@@ -10,18 +10,19 @@ use Rattle.std.specs.declared.option.Option.the-variants.{Some, None}
 use Rattle.std.specs.declared.result.Result.{Result}
 use Rattle.std.specs.declared.result.Result.the-variants.{Ok, Err}
 use Rattle.values.specs.declared.fix.Report.{Report}
 use Rattle.wire.specs.declared.words.Malformed.{Malformed}
 use Rattle.wire.specs.declared.statement.Claim.{Claim}
 use Rattle.wire.specs.declared.statement.ViewChange.{ViewChange}
 use Rattle.wire.specs.declared.statement.Statement.{Statement}
 use Rattle.wire.specs.declared.statement.Statement.the-variants.{Propose, Prepare, Commit, NewView}
 use Rattle.wire.specs.Words.{bind}
 use Rattle.wire.specs.Contents.{Vote, Certified, Turn, Content, propose, prepare, commit, new-view, reported, changeOf, changeBytes, statementBytes, tagBytes}
 use Rattle.wire.specs.Layout.{claimAt, changeAt, tagAt, votesAt, certifiedAt, progressAt, turnAt, nothingAt, wholly, proposeOf, prepareOf, commitOf, newViewOf}
-use Rattle.wire.specs.Parts.{behind, mapOk, Cut, Pieces, pieced, partsAt, restAt, locate}
+use Rattle.wire.specs.Places.{behind}
+use Rattle.messages.specs.Parts.{mapOk, Cut, Pieces, pieced, partsAt, restAt, locate}
 use Rattle.wire.proofs.Results.{bind-ok, ok-same}
 use Rattle.wire.proofs.Lengths.{tag-read, claim-ends, change-ends}
-use Rattle.wire.proofs.Envelopes.{envelope-on, envelope-behind, envelope-same}
+use Rattle.messages.proofs.Envelopes.{envelope-on, envelope-behind, envelope-same}
 
 -- the parts of a statement's message
 abbrev pub under : {S : Type 0} → (S → Statement) → Pieces S → Pieces Statement

@@ -4,8 +4,8 @@ ghost use Prim.Native.Nat.{_+_, _≤_};
 ghost use lib.ListN.{length};
 ghost use Rattle.std.specs.declared.result.Result.the-variants.{Ok};
 ghost use Rattle.std.specs.Vec.{made};
 ghost use Rattle.wire.specs.Layout.{wholly, proposeOf, prepareOf, commitOf, newViewOf, messageOf, draftEnd};
-ghost use Rattle.wire.specs.Parts.{mapOk, partsAt, piecesOf, told, locate, draftPlace};
+ghost use Rattle.messages.specs.Parts.{mapOk, partsAt, piecesOf, told, locate, draftPlace};
 use super::kind::Commit;
 use super::kind::CommitKind;
 use super::kind::Envelope;
@@ -17,11 +17,11 @@ use super::kind::PrepareKind;
 use super::kind::Propose;
 use super::kind::ProposeKind;
 use super::kind::envelope_at;
-use super::statement::Claim;
-use super::statement::ViewChange;
-use super::tag::Part;
-use super::words::Malformed;
-use super::words::word_at;
+use wire::Claim;
+use wire::ViewChange;
+use wire::Part;
+use wire::Malformed;
+use wire::word_at;
 use values::TagLimit;
 
 // Which of the four messages a packet is, with parts of the packet. The certificate of

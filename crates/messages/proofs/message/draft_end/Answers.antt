@@ -1,7 +1,7 @@
 use borrow.Author.Needs.{needs}
 use Rattle.wire.specs.Layout.{claimAt, changeAt, progressAt, votesAt, certifiedAt, nothingAt, draftEnd}
-use Rattle.wire.proofs.Envelopes.{draft-same}
-use Rattle.wire.proofs.message.draft_end.Needs as need
+use Rattle.messages.proofs.Envelopes.{draft-same}
+use Rattle.messages.proofs.message.draft_end.Needs as need
 
 pub returns-in-Break-word-at : need.returns-in-Break-word-at
 unfolding draftEnd

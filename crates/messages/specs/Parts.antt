@@ -1,51 +1,23 @@
--- The parts of a packet that readers answer, with their places.
-use mathlib.Core.List.{List, [], _∷_, _++_}
+-- Messages taken apart: the parts of a packet that readers answer, with their places.
+use mathlib.Core.List.{List, []}
 use mathlib.Core.Bool.{cond}
-use Prim.Native.Nat.{ℕ, zero, suc, _+_, _-_, _≤_}
-use lib.Dec.{leb, eqb}
+use Prim.Native.Nat.{ℕ, _+_, _-_}
+use lib.Dec.{eqb}
 use lib.ListN.{length, take, drop}
-use Rattle.std.specs.declared.result.Result.{Result}
-use Rattle.std.specs.declared.result.Result.the-variants.{Ok, Err}
 use Rattle.std.specs.declared.option.Option.{Option}
 use Rattle.std.specs.declared.option.Option.the-variants.{Some, None}
+use Rattle.std.specs.declared.result.Result.{Result}
+use Rattle.std.specs.declared.result.Result.the-variants.{Ok, Err}
 use Rattle.wire.specs.declared.words.Malformed.{Malformed}
 use Rattle.wire.specs.declared.tag.Part.{Part}
-use Rattle.wire.specs.declared.certificate.Entry.{Entry}
-use Rattle.wire.specs.declared.kind.Envelope.{Envelope}
 use Rattle.wire.specs.declared.statement.Statement.{Statement}
 use Rattle.wire.specs.declared.statement.Statement.the-variants as statement
-use Rattle.wire.specs.declared.message.Message.{Message}
-use Rattle.wire.specs.declared.message.Message.the-variants as message
-use Rattle.wire.specs.Words.{bind, fault, wordAt}
-use Rattle.wire.specs.Contents.{Vote, Content, statementBytes, tagBytes, statementOf, tagOf}
+use Rattle.wire.specs.Words.{bind}
+use Rattle.wire.specs.Contents.{Content, statementBytes, tagBytes, statementOf, tagOf}
 use Rattle.wire.specs.Layout.{tagAt, nothingAt, envelopeAt, wholly}
-
--- a place behind at, within b
-abbrev pub Inside : ℕ → ℕ → List ℕ → Type 0
-Inside at end b = (at ≤ end) × (end ≤ length b)
-
--- only the place behind what is read
-abbrev pub behind : {A : Type 0} → Result (A × ℕ) Malformed → Result ℕ Malformed
-behind (Ok p) = Ok (p .1)
-behind (Err e) = Err e
-
--- the place behind a count word up to 16 and so many things
-abbrev pub manyEnd : (ℕ → Result ℕ Malformed) → ℕ → ℕ → Result ℕ Malformed
-manyEnd one zero at = Ok at
-manyEnd one (suc n) at = bind (one at) (manyEnd one n)
-
-abbrev pub countedEnd : (ℕ → Result ℕ Malformed) → List ℕ → ℕ → Result ℕ Malformed
-countedEnd one b at = bind (wordAt b at) (λ n. cond (leb n 16) (manyEnd one n (at + 4)) (fault at))
-
--- a tag as it is read: its bytes, and the place behind
-abbrev pub tagRead : Result (Part × ℕ) Malformed → Result (List ℕ × ℕ) Malformed
-tagRead (Ok p) = Ok (p .0 .bytes .now, p .1)
-tagRead (Err e) = Err e
-
--- an entry of a commit certificate as it is read
-abbrev pub entryRead : Result (Entry × ℕ) Malformed → Result (Vote × ℕ) Malformed
-entryRead (Ok p) = Ok (record { site = p .0 .site; tag = p .0 .tag .bytes .now }, p .1)
-entryRead (Err e) = Err e
+use Rattle.messages.specs.declared.kind.Envelope.{Envelope}
+use Rattle.messages.specs.declared.message.Message.{Message}
+use Rattle.messages.specs.declared.message.Message.the-variants as message
 
 -- a part of a packet, and its place
 pub record Cut : Type 0 where

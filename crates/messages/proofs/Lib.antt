@@ -1,0 +1,2 @@
+pub mod Envelopes
+pub mod Located

@@ -1,0 +1,115 @@
+// Each kind of packet whole, cut at each word, and damaged. The tag limit is 4.
+use messages::Message;
+use packets::read;
+use std::test::*;
+use values::Fix;
+use values::TagLimit;
+
+// Of (7, 600000, 30000000) in round 9, view 1: proposed by site 0, prepared by site 1.
+const PROPOSE: [u8; 40] = [
+    0, 0, 0, 1, 0, 0, 0, 9, 0, 0, 0, 1, 0, 0, 0, 0, 0, 0, 0, 7, 0x00, 0x09, 0x27, 0xc0, 0x01, 0xc9, 0xc3, 0x80, 0, 0, 0, 2, 0xab, 0xcd, 0, 0, 0, 0, 0, 0,
+];
+const PREPARE: [u8; 36] = [
+    0, 0, 0, 2, 0, 0, 0, 9, 0, 0, 0, 1, 0, 0, 0, 1, 0, 0, 0, 7, 0x00, 0x09, 0x27, 0xc0, 0x01, 0xc9, 0xc3, 0x80, 0, 0, 0, 4, 1, 2, 3, 4,
+];
+// Committed by site 2, with a certificate of one entry: site 3, tag 9.
+const COMMIT: [u8; 48] = [
+    0, 0, 0, 3, 0, 0, 0, 9, 0, 0, 0, 1, 0, 0, 0, 2, 0, 0, 0, 7, 0x00, 0x09, 0x27, 0xc0, 0x01, 0xc9, 0xc3, 0x80, 0, 0, 0, 0, 0, 0, 0, 1, 0, 0, 0, 3, 0, 0, 0, 1, 9, 0, 0, 0,
+];
+// Site 3 moves to view 2, prepared in view 1, committed nothing.
+const NEW_VIEW: [u8; 44] = [
+    0, 0, 0, 4, 0, 0, 0, 9, 0, 0, 0, 2, 0, 0, 0, 3, 0, 0, 0, 1, 0, 0, 0, 1, 0, 0, 0, 7, 0x00, 0x09, 0x27, 0xc0, 0x01, 0xc9, 0xc3, 0x80, 0, 0, 0, 0, 0, 0, 0, 0,
+];
+
+// The place of a layout fault, or none where the packet is read.
+fn fault(packet: &[u8]) -> Result<Option<usize>, Fail> {
+    let Ok(limit) = TagLimit::new(4) else {
+        return Err(Fail::new("no limit"));
+    };
+    match read(packet, limit) {
+        Ok(_) => Ok(None),
+        Err(refusal) => {
+            check(refusal.number() == 3)?;
+            Ok(refusal.place())
+        }
+    }
+}
+
+// A packet with one byte changed.
+fn damaged(packet: &[u8], at: usize, byte: u8) -> Result<Option<usize>, Fail> {
+    let mut copy = [0u8; 64];
+    let len = packet.len();
+    check(len <= 64 && at < 64)?;
+    copy[0..len].copy_from_slice(packet);
+    copy[at] = byte;
+    fault(&copy[0..len])
+}
+
+#[test]
+fn prepare_is_read() -> Result<(), Fail> {
+    let Ok(limit) = TagLimit::new(4) else {
+        return Err(Fail::new("no limit"));
+    };
+    let Ok(Message::Prepare { claim, tag }) = read(&PREPARE, limit) else {
+        return Err(Fail::new("no prepare"));
+    };
+    check(claim.head.round == 9 && claim.head.view == 1 && claim.head.site == 1)?;
+    let fix = Fix::of(claim.value);
+    check(fix.track == 7 && fix.longitude == 600000 && fix.latitude == 30000000)?;
+    check(tag.place == 28 && tag.bytes == [1u8, 2, 3, 4])
+}
+
+#[test]
+fn certificates_have_places() -> Result<(), Fail> {
+    let Ok(limit) = TagLimit::new(4) else {
+        return Err(Fail::new("no limit"));
+    };
+    let Ok(Message::Commit { certificate, .. }) = read(&COMMIT, limit) else {
+        return Err(Fail::new("no commit"));
+    };
+    check(certificate.place == 32 && certificate.bytes.len() == 16)?;
+    let Ok(Message::Propose { progress, tag, .. }) = read(&PROPOSE, limit) else {
+        return Err(Fail::new("no propose"));
+    };
+    check(tag.bytes == [0xabu8, 0xcd] && progress.place == 36 && progress.bytes.len() == 4)?;
+    let Ok(Message::NewView { change, tag, certificate }) = read(&NEW_VIEW, limit) else {
+        return Err(Fail::new("no new-view"));
+    };
+    check(change.prepared.is_some() && change.committed.is_none())?;
+    check(tag.place == 40 && certificate.place == 44 && certificate.bytes.is_empty())
+}
+
+// A cut word is at its own place, a cut tag at its length word.
+#[test]
+fn cut_at_each_word() -> Result<(), Fail> {
+    for k in 0..10usize {
+        let place = if k == 8 { 28 } else { 4 * k };
+        check(fault(&PROPOSE[0..4 * k])? == Some(place))?;
+    }
+    for k in 0..9usize {
+        let place = if k == 8 { 28 } else { 4 * k };
+        check(fault(&PREPARE[0..4 * k])? == Some(place))?;
+    }
+    for k in 0..12usize {
+        let place = if k == 11 { 40 } else { 4 * k };
+        check(fault(&COMMIT[0..4 * k])? == Some(place))?;
+    }
+    for k in 0..11usize {
+        check(fault(&NEW_VIEW[0..4 * k])? == Some(4 * k))?;
+    }
+    Ok(())
+}
+
+#[test]
+fn damaged_packets() -> Result<(), Fail> {
+    check(fault(&PREPARE)?.is_none() && fault(&COMMIT)?.is_none())?;
+    check(damaged(&PREPARE, 3, 5)? == Some(0)).note("kind 5")?;
+    check(damaged(&PREPARE, 31, 5)? == Some(28)).note("a tag of 5 bytes")?;
+    check(damaged(&PREPARE, 31, 3)? == Some(28)).note("filled with a 4")?;
+    check(damaged(&PREPARE, 31, 0)? == Some(32)).note("left over")?;
+    check(damaged(&COMMIT, 35, 17)? == Some(32)).note("a count of 17")?;
+    check(damaged(&COMMIT, 35, 16)? == Some(48)).note("a count of 16, cut")?;
+    check(damaged(&COMMIT, 45, 1)? == Some(40)).note("filled with a 1")?;
+    check(damaged(&NEW_VIEW, 19, 2)? == Some(16)).note("a bool of 2")?;
+    check(damaged(&NEW_VIEW, 39, 1)? == Some(44)).note("a committed view, cut")
+}
