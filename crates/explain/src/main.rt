@@ -29,13 +29,25 @@ fn tag_limit(rt: &LibcRuntime) -> Result<TagLimit, AnyError> {
 // A packet, and what it holds.
 fn explain_packet(rt: &LibcRuntime, text: &str, limit: TagLimit) -> Result<(), AnyError> {
     match hex::decode(rt.alloc(), text.as_bytes()) {
-        Ok(packet) => show_packet(rt, Shown { packet: packet.as_slice(), limit, indent: "  " }),
+        Ok(packet) => show_packet(
+            rt,
+            Shown {
+                packet: packet.as_slice(),
+                limit,
+                indent: "  ",
+            },
+        ),
         Err(bad) => show_bad_text(rt, bad),
     }
 }
 
 // A draft and a tag: the message that sealing makes of them, read back.
-fn explain_draft(rt: &LibcRuntime, draft: &str, tag: &str, limit: TagLimit) -> Result<(), AnyError> {
+fn explain_draft(
+    rt: &LibcRuntime,
+    draft: &str,
+    tag: &str,
+    limit: TagLimit,
+) -> Result<(), AnyError> {
     let heap = rt.alloc();
     let draft = match hex::decode(heap, draft.as_bytes()) {
         Ok(bytes) => bytes,
@@ -66,12 +78,22 @@ fn show_sealed(rt: &LibcRuntime, out: &[u8], len: usize, limit: TagLimit) -> Res
     print!(rt, "  sealed: ")?;
     hex::print(rt, packet)?;
     print!(rt, "  ")?;
-    show_packet(rt, Shown { packet, limit, indent: "    " })
+    show_packet(
+        rt,
+        Shown {
+            packet,
+            limit,
+            indent: "    ",
+        },
+    )
 }
 
 fn show_bad_text(rt: &LibcRuntime, bad: BadText) -> Result<(), AnyError> {
     match bad {
-        BadText::NoDigit { at } => println!(rt, "bad line: no hexadecimal digit at character {at}")?,
+        BadText::NoDigit { at } => println!(
+            rt,
+            "bad line: no hexadecimal digit at character {at}"
+        )?,
         BadText::HalfByte => println!(rt, "bad line: half a byte is left over")?,
         BadText::NoMemory => println!(rt, "no memory for this line")?,
     }
@@ -79,7 +101,12 @@ fn show_bad_text(rt: &LibcRuntime, bad: BadText) -> Result<(), AnyError> {
 }
 
 // One line: a packet, or a draft and a tag with a + between them; # starts a comment.
-fn explain_line(rt: &LibcRuntime, number: u64, line: &str, limit: TagLimit) -> Result<(), AnyError> {
+fn explain_line(
+    rt: &LibcRuntime,
+    number: u64,
+    line: &str,
+    limit: TagLimit,
+) -> Result<(), AnyError> {
     let text = match line.split_once('#') {
         Some((text, _)) => text,
         None => line,

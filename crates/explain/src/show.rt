@@ -1,4 +1,9 @@
 // What a packet holds, in plain words.
+use messages::Message;
+use messages::NewView;
+use messages::NewViewKind;
+use messages::envelope_at;
+use messages::shortest;
 use packets::read;
 use packets::write;
 use std::error::AnyError;
@@ -10,14 +15,9 @@ use values::TagLimit;
 use values::Value;
 use wire::Claim;
 use wire::Head;
-use messages::Message;
-use messages::NewView;
-use messages::NewViewKind;
 use wire::Part;
 use wire::ViewChange;
 use wire::entry_at;
-use messages::envelope_at;
-use messages::shortest;
 use wire::word_at;
 
 // A packet to be shown, and what stands before each line.
@@ -43,7 +43,8 @@ pub fn show_packet(rt: &LibcRuntime, shown: Shown<'_>) -> Result<(), AnyError> {
 }
 
 // What may be wrong where a layout is broken.
-const LAYOUT: &str = "the layout is broken there: a word or a tag is cut, a kind is unknown or not allowed, a bool is above 1, a count is above 16, a tag is too long or filled wrongly, or bytes are left over";
+const LAYOUT: &str =
+    "the layout is broken there: a word or a tag is cut, a kind is unknown or not allowed, a bool is above 1, a count is above 16, a tag is too long or filled wrongly, or bytes are left over";
 
 // How long the packet should have been at least, if its kind is known.
 fn show_shortest(rt: &LibcRuntime, shown: Shown<'_>) -> Result<(), AnyError> {
@@ -62,16 +63,28 @@ fn show_shortest(rt: &LibcRuntime, shown: Shown<'_>) -> Result<(), AnyError> {
 
 fn show_message(rt: &LibcRuntime, shown: Shown<'_>, message: Message<'_>) -> Result<(), AnyError> {
     match message {
-        Message::Propose { claim, tag, progress } => {
+        Message::Propose {
+            claim,
+            tag,
+            progress,
+        } => {
             show_claim(rt, shown, "propose", claim, tag)?;
             show_progress(rt, shown, progress.place)
         }
         Message::Prepare { claim, tag } => show_claim(rt, shown, "prepare", claim, tag),
-        Message::Commit { claim, tag, certificate } => {
+        Message::Commit {
+            claim,
+            tag,
+            certificate,
+        } => {
             show_claim(rt, shown, "commit", claim, tag)?;
             show_certificate(rt, shown, "", certificate.place)
         }
-        Message::NewView { change, tag, certificate } => {
+        Message::NewView {
+            change,
+            tag,
+            certificate,
+        } => {
             let len = shown.packet.len();
             println!(rt, "new-view, {len} bytes")?;
             show_change(rt, shown, "", change, tag)?;
@@ -83,7 +96,13 @@ fn show_message(rt: &LibcRuntime, shown: Shown<'_>, message: Message<'_>) -> Res
     }
 }
 
-fn show_claim(rt: &LibcRuntime, shown: Shown<'_>, kind: &str, claim: Claim, tag: Part<'_>) -> Result<(), AnyError> {
+fn show_claim(
+    rt: &LibcRuntime,
+    shown: Shown<'_>,
+    kind: &str,
+    claim: Claim,
+    tag: Part<'_>,
+) -> Result<(), AnyError> {
     let len = shown.packet.len();
     println!(rt, "{kind}, {len} bytes")?;
     show_head(rt, shown, "", claim.head)?;
@@ -121,7 +140,11 @@ fn show_part(rt: &LibcRuntime, tag: Part<'_>) -> Result<(), AnyError> {
 // The three numbers, and the position in degrees and minutes.
 fn show_fix(rt: &LibcRuntime, value: Value) -> Result<(), AnyError> {
     let fix = Fix::of(value);
-    let Fix { track, longitude, latitude } = fix;
+    let Fix {
+        track,
+        longitude,
+        latitude,
+    } = fix;
     print!(rt, "fix {track} {longitude} {latitude}, ")?;
     show_angle(rt, latitude, "N", "S")?;
     print!(rt, " ")?;
@@ -134,20 +157,36 @@ fn show_fix(rt: &LibcRuntime, value: Value) -> Result<(), AnyError> {
 }
 
 fn show_angle(rt: &LibcRuntime, coordinate: i32, up: &str, down: &str) -> Result<(), AnyError> {
-    let Angle { degrees, minutes, parts } = Angle::of(coordinate);
+    let Angle {
+        degrees,
+        minutes,
+        parts,
+    } = Angle::of(coordinate.unsigned_abs());
     let side = if coordinate < 0 { down } else { up };
     print!(rt, "{degrees}°{minutes:02}.{parts:04}'{side}")?;
     Ok(())
 }
 
-fn show_change(rt: &LibcRuntime, shown: Shown<'_>, more: &str, change: ViewChange, tag: Part<'_>) -> Result<(), AnyError> {
+fn show_change(
+    rt: &LibcRuntime,
+    shown: Shown<'_>,
+    more: &str,
+    change: ViewChange,
+    tag: Part<'_>,
+) -> Result<(), AnyError> {
     show_head(rt, shown, more, change.head)?;
     show_report(rt, shown, more, "prepared", change.prepared)?;
     show_report(rt, shown, more, "committed", change.committed)?;
     show_tag(rt, shown, more, tag)
 }
 
-fn show_report(rt: &LibcRuntime, shown: Shown<'_>, more: &str, what: &str, report: Option<Report>) -> Result<(), AnyError> {
+fn show_report(
+    rt: &LibcRuntime,
+    shown: Shown<'_>,
+    more: &str,
+    what: &str,
+    report: Option<Report>,
+) -> Result<(), AnyError> {
     show_margin(rt, shown, more)?;
     print!(rt, "{what} ")?;
     match report {
@@ -163,7 +202,12 @@ fn show_report(rt: &LibcRuntime, shown: Shown<'_>, more: &str, what: &str, repor
 }
 
 // A commit certificate: a line for each entry, indented under it.
-fn show_certificate(rt: &LibcRuntime, shown: Shown<'_>, more: &str, place: usize) -> Result<(), AnyError> {
+fn show_certificate(
+    rt: &LibcRuntime,
+    shown: Shown<'_>,
+    more: &str,
+    place: usize,
+) -> Result<(), AnyError> {
     let Ok(count) = word_at(shown.packet, place) else {
         return Ok(());
     };
@@ -201,7 +245,11 @@ fn show_progress(rt: &LibcRuntime, shown: Shown<'_>, place: usize) -> Result<(),
 }
 
 // A new-view inside a progress certificate, and the place behind it.
-fn show_new_view(rt: &LibcRuntime, shown: Shown<'_>, place: usize) -> Result<Option<usize>, AnyError> {
+fn show_new_view(
+    rt: &LibcRuntime,
+    shown: Shown<'_>,
+    place: usize,
+) -> Result<Option<usize>, AnyError> {
     let Ok((entry, end)) = envelope_at::<NewView>(shown.packet, place, shown.limit) else {
         return Ok(None);
     };
@@ -215,11 +263,19 @@ fn show_new_view(rt: &LibcRuntime, shown: Shown<'_>, place: usize) -> Result<Opt
 }
 
 // The message written again, and compared with the packet.
-fn show_rewritten(rt: &LibcRuntime, shown: Shown<'_>, message: Message<'_>) -> Result<(), AnyError> {
+fn show_rewritten(
+    rt: &LibcRuntime,
+    shown: Shown<'_>,
+    message: Message<'_>,
+) -> Result<(), AnyError> {
     let mut out = vec![in rt.alloc(); 0u8; shown.packet.len()]?;
     match write(message, shown.limit, out.as_mut_slice()) {
         Ok(len) => {
-            let same = if out.as_slice() == shown.packet { "the same" } else { "OTHER" };
+            let same = if out.as_slice() == shown.packet {
+                "the same"
+            } else {
+                "OTHER"
+            };
             show_margin(rt, shown, "")?;
             println!(rt, "written back, {same} {len} bytes")?;
             Ok(())

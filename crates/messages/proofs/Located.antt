@@ -92,7 +92,7 @@ module _ (limit : ℕ) (b : List ℕ) where
   new-view-located =
       ap (λ r. mapOk (locate b) (wholly b r)) (envelope-on b 4 (changeAt b) (tagAt limit b) (λ c. certifiedAt limit b (c .committed)) turned new-view 0)
       ∙ envelope-same b 4 (changeAt b) (tagAt limit b) (λ c. certifiedAt limit b (c .committed)) (λ s t a. new-view (turned s t a)) (pieced b) (locate b) (under NewView)
-        (λ s t a p q r e. cuts (new-view (turned s t a)) (NewView (s .0)) (s .1) (t .1) (a .1) (t .0) (turned-rest (s .0) (reported (a .0)) (t .0) (certified-reports (s .0 .committed) (t .1) a r)) (stated (s .0) (s .1) (change-ends b 4 s p)) (tag-read limit b (s .1) t q .ends) e)
+      (λ s t a p q r e. cuts (new-view (turned s t a)) (NewView (s .0)) (s .1) (t .1) (a .1) (t .0) (turned-rest (s .0) (reported (a .0)) (t .0) (certified-reports (s .0 .committed) (t .1) a r)) (stated (s .0) (s .1) (change-ends b 4 s p)) (tag-read limit b (s .1) t q .ends) e)
 
   pub turn-behind : (at : ℕ) → behind (partsAt 4 (changeAt b) (λ c k. behind (certifiedAt limit b (c .committed) k)) limit b at) ≡ behind (turnAt limit b at)
   unfolding turnAt

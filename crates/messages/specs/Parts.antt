@@ -47,10 +47,11 @@ ended r = bind r (λ end. Ok (tt, end))
 -- statement, tag and attachment as they were read
 abbrev pub pieced : {S : Type 0} → List ℕ → S × ℕ → List ℕ × ℕ → Unit {0} × ℕ → Pieces S
 pieced b s t a =
-    record
-    { statement = s .0
-    ; tag = record { place = s .1; bytes = t .0 }
-    ; attachment = record { place = t .1; bytes = take (a .1 - t .1) (drop (t .1) b) } }
+    record {
+      statement = s .0;
+      tag = record { place = s .1; bytes = t .0 };
+      attachment = record { place = t .1; bytes = take (a .1 - t .1) (drop (t .1) b) };
+    }
 
 -- the parts of a message of one kind, by the readings of its statement and of its attachment
 abbrev pub partsAt : {S : Type 0} → ℕ → (ℕ → Result (S × ℕ) Malformed) → (S → ℕ → Result ℕ Malformed) → ℕ → List ℕ → ℕ → Result (Pieces S × ℕ) Malformed
@@ -85,7 +86,8 @@ restAt b at = record { place = at; bytes = drop at b }
 -- the parts of a content that b holds: the tag stands behind the statement, the attachment behind the tag
 unfoldable pub locate : List ℕ → Content → Pieces Statement
 locate b m =
-    record
-    { statement = statementOf m
-    ; tag = record { place = length (statementBytes (statementOf m)); bytes = tagOf m }
-    ; attachment = restAt b (length (statementBytes (statementOf m)) + length (tagBytes (tagOf m))) }
+    record {
+      statement = statementOf m;
+      tag = record { place = length (statementBytes (statementOf m)); bytes = tagOf m };
+      attachment = restAt b (length (statementBytes (statementOf m)) + length (tagBytes (tagOf m)));
+    }

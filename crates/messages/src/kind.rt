@@ -11,19 +11,19 @@ ghost use Rattle.wire.specs.declared.words.Malformed.{Malformed};
 ghost use Rattle.wire.specs.Layout.{claimAt, changeAt, votesAt, certifiedAt, progressAt, turnAt};
 ghost use Rattle.wire.specs.Places.{Inside, behind};
 ghost use Rattle.messages.specs.Parts.{envelopeRead, partsAt, shortestOf};
-use wire::Counted;
-use wire::certificate_end;
-use wire::counted_end;
-use wire::Claim;
-use wire::ViewChange;
-use wire::claim_at;
-use wire::view_change_at;
-use wire::Part;
-use wire::tag_at;
-use wire::Malformed;
-use wire::word_at;
 use values::Report;
 use values::TagLimit;
+use wire::Claim;
+use wire::Counted;
+use wire::Malformed;
+use wire::Part;
+use wire::ViewChange;
+use wire::certificate_end;
+use wire::claim_at;
+use wire::counted_end;
+use wire::tag_at;
+use wire::view_change_at;
+use wire::word_at;
 
 // A kind of message: its number, its shortest length, the record of its statement,
 // and what it attaches.
@@ -52,7 +52,12 @@ pub trait Kind {
         ensures within { λ r. ⌜ made r (λ p. Inside at (p .1) (now (packet .entry))) ⌝ };
 
     // The place behind what a statement attaches.
-    fn attachment_end(said: Self::Record, packet: &[u8], at: usize, limit: TagLimit) -> Result<usize, Malformed>
+    fn attachment_end(
+        said: Self::Record,
+        packet: &[u8],
+        at: usize,
+        limit: TagLimit,
+    ) -> Result<usize, Malformed>
         ensures value { λ r. ⌜ r ≡ attaches (limit .bytes) (now (packet .entry)) said at ⌝ }
         ensures within { λ r. ⌜ made r (λ e. (at ≤ length (now (packet .entry)) → Inside at e (now (packet .entry)))) ⌝ };
 }
@@ -66,7 +71,11 @@ pub struct Envelope<'a, R> {
 }
 
 // The message of one kind at a place, and the place behind it.
-pub fn envelope_at<K: Kind>(packet: &[u8], at: usize, limit: TagLimit) -> Result<(Envelope<'_, K::Record>, usize), Malformed>
+pub fn envelope_at<K: Kind>(
+    packet: &[u8],
+    at: usize,
+    limit: TagLimit,
+) -> Result<(Envelope<'_, K::Record>, usize), Malformed>
     ensures value { λ r. ⌜ envelopeRead r ≡ partsAt (K·Kind .number) (K·Kind .states (now (packet .entry))) (K·Kind .attaches (limit .bytes) (now (packet .entry))) (limit .bytes) (now (packet .entry)) at ⌝ }
     ensures within { λ r. ⌜ made r (λ p. Inside at (p .1) (now (packet .entry))) ⌝ }
 {
@@ -76,8 +85,18 @@ pub fn envelope_at<K: Kind>(packet: &[u8], at: usize, limit: TagLimit) -> Result
     let (statement, next) = K::statement_at(packet, at + 4)?;
     let (tag, start) = tag_at(packet, next, limit)?;
     let end = K::attachment_end(statement, packet, start, limit)?;
-    let attachment = Part { place: start, bytes: &packet[start..end] };
-    Ok((Envelope { statement, tag, attachment }, end))
+    let attachment = Part {
+        place: start,
+        bytes: &packet[start..end],
+    };
+    Ok((
+        Envelope {
+            statement,
+            tag,
+            attachment,
+        },
+        end,
+    ))
 }
 
 pub struct Propose;
@@ -113,7 +132,12 @@ pub impl Kind for Prepare as PrepareKind {
         claim_at(packet, at)
     }
 
-    fn attachment_end(_said: Claim, _packet: &[u8], at: usize, _limit: TagLimit) -> Result<usize, Malformed> {
+    fn attachment_end(
+        _said: Claim,
+        _packet: &[u8],
+        at: usize,
+        _limit: TagLimit,
+    ) -> Result<usize, Malformed> {
         Ok(at)
     }
 }
@@ -143,7 +167,12 @@ pub impl Kind for Commit as CommitKind {
         claim_at(packet, at)
     }
 
-    fn attachment_end(_said: Claim, packet: &[u8], at: usize, limit: TagLimit) -> Result<usize, Malformed> {
+    fn attachment_end(
+        _said: Claim,
+        packet: &[u8],
+        at: usize,
+        limit: TagLimit,
+    ) -> Result<usize, Malformed> {
         certificate_end(packet, at, limit)
     }
 }
@@ -173,7 +202,12 @@ pub impl Kind for NewView as NewViewKind {
         view_change_at(packet, at)
     }
 
-    fn attachment_end(said: ViewChange, packet: &[u8], at: usize, limit: TagLimit) -> Result<usize, Malformed> {
+    fn attachment_end(
+        said: ViewChange,
+        packet: &[u8],
+        at: usize,
+        limit: TagLimit,
+    ) -> Result<usize, Malformed> {
         match said.committed {
             Some(_) => certificate_end(packet, at, limit),
             None => Ok(at),
@@ -225,7 +259,12 @@ pub impl Kind for Propose as ProposeKind {
         claim_at(packet, at)
     }
 
-    fn attachment_end(_said: Claim, packet: &[u8], at: usize, limit: TagLimit) -> Result<usize, Malformed> {
+    fn attachment_end(
+        _said: Claim,
+        packet: &[u8],
+        at: usize,
+        limit: TagLimit,
+    ) -> Result<usize, Malformed> {
         progress_end(packet, at, limit)
     }
 }

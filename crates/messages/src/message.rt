@@ -17,21 +17,36 @@ use super::kind::PrepareKind;
 use super::kind::Propose;
 use super::kind::ProposeKind;
 use super::kind::envelope_at;
-use wire::Claim;
-use wire::ViewChange;
-use wire::Part;
-use wire::Malformed;
-use wire::word_at;
 use values::TagLimit;
+use wire::Claim;
+use wire::Malformed;
+use wire::Part;
+use wire::ViewChange;
+use wire::word_at;
 
 // Which of the four messages a packet is, with parts of the packet. The certificate of
 // a new-view is empty where it reports no commit.
 #[derive(Clone, Copy)]
 pub enum Message<'a> {
-    Propose { claim: Claim, tag: Part<'a>, progress: Part<'a> },
-    Prepare { claim: Claim, tag: Part<'a> },
-    Commit { claim: Claim, tag: Part<'a>, certificate: Part<'a> },
-    NewView { change: ViewChange, tag: Part<'a>, certificate: Part<'a> },
+    Propose {
+        claim: Claim,
+        tag: Part<'a>,
+        progress: Part<'a>,
+    },
+    Prepare {
+        claim: Claim,
+        tag: Part<'a>,
+    },
+    Commit {
+        claim: Claim,
+        tag: Part<'a>,
+        certificate: Part<'a>,
+    },
+    NewView {
+        change: ViewChange,
+        tag: Part<'a>,
+        certificate: Part<'a>,
+    },
 }
 
 // Nothing may be left over behind `end`.
@@ -57,29 +72,56 @@ fn read_as<K: Kind>(packet: &[u8], limit: TagLimit) -> Result<Envelope<'_, K::Re
 fn read_propose(packet: &[u8], limit: TagLimit) -> Result<Message<'_>, Malformed>
     ensures { λ r. ⌜ mapOk told r ≡ mapOk (locate (now (packet .entry))) (proposeOf (limit .bytes) (now (packet .entry))) ⌝ }
 {
-    let Envelope { statement, tag, attachment } = read_as::<Propose>(packet, limit)?;
-    Ok(Message::Propose { claim: statement, tag, progress: attachment })
+    let Envelope {
+        statement,
+        tag,
+        attachment,
+    } = read_as::<Propose>(packet, limit)?;
+    Ok(Message::Propose {
+        claim: statement,
+        tag,
+        progress: attachment,
+    })
 }
 
 fn read_prepare(packet: &[u8], limit: TagLimit) -> Result<Message<'_>, Malformed>
     ensures { λ r. ⌜ mapOk told r ≡ mapOk (locate (now (packet .entry))) (prepareOf (limit .bytes) (now (packet .entry))) ⌝ }
 {
     let Envelope { statement, tag, .. } = read_as::<Prepare>(packet, limit)?;
-    Ok(Message::Prepare { claim: statement, tag })
+    Ok(Message::Prepare {
+        claim: statement,
+        tag,
+    })
 }
 
 fn read_commit(packet: &[u8], limit: TagLimit) -> Result<Message<'_>, Malformed>
     ensures { λ r. ⌜ mapOk told r ≡ mapOk (locate (now (packet .entry))) (commitOf (limit .bytes) (now (packet .entry))) ⌝ }
 {
-    let Envelope { statement, tag, attachment } = read_as::<Commit>(packet, limit)?;
-    Ok(Message::Commit { claim: statement, tag, certificate: attachment })
+    let Envelope {
+        statement,
+        tag,
+        attachment,
+    } = read_as::<Commit>(packet, limit)?;
+    Ok(Message::Commit {
+        claim: statement,
+        tag,
+        certificate: attachment,
+    })
 }
 
 fn read_new_view(packet: &[u8], limit: TagLimit) -> Result<Message<'_>, Malformed>
     ensures { λ r. ⌜ mapOk told r ≡ mapOk (locate (now (packet .entry))) (newViewOf (limit .bytes) (now (packet .entry))) ⌝ }
 {
-    let Envelope { statement, tag, attachment } = read_as::<NewView>(packet, limit)?;
-    Ok(Message::NewView { change: statement, tag, certificate: attachment })
+    let Envelope {
+        statement,
+        tag,
+        attachment,
+    } = read_as::<NewView>(packet, limit)?;
+    Ok(Message::NewView {
+        change: statement,
+        tag,
+        certificate: attachment,
+    })
 }
 
 // The whole packet as one of the four messages.

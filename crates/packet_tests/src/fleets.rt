@@ -29,7 +29,15 @@ fn quorums() -> Result<(), Fail> {
 
 #[test]
 fn no_other_fleets() -> Result<(), Fail> {
-    let refused = [(0, 0), (1, 2), (2, 3), (4, 2), (5, 1), (6, 0), (4294967295, 4294967295)];
+    let refused = [
+        (0, 0),
+        (1, 2),
+        (2, 3),
+        (4, 2),
+        (5, 1),
+        (6, 0),
+        (4294967295, 4294967295),
+    ];
     for (f, t) in refused {
         match Fleet::new(f, t) {
             Ok(_) => return Err(Fail::new("a fleet")),
@@ -72,13 +80,39 @@ fn tag_limits() -> Result<(), Fail> {
 
 #[test]
 fn legal_fixes() -> Result<(), Fail> {
-    let ends = [(1, 108000000, 54000000), (999, -108000000, -54000000), (7, 600000, 30000000)];
+    let ends = [
+        (1, 108000000, 54000000),
+        (999, -108000000, -54000000),
+        (7, 600000, 30000000),
+    ];
     for (track, longitude, latitude) in ends {
-        check(Fix { track, longitude, latitude }.words().test(16).is_ok())?;
+        check(
+            Fix {
+                track,
+                longitude,
+                latitude,
+            }
+                .words()
+                .test(16)
+                .is_ok(),
+        )?;
     }
-    let beyond = [(0, 0, 0), (1000, 0, 0), (7, 108000001, 0), (7, -108000001, 0), (7, 0, 54000001), (7, 0, -54000001)];
+    let beyond = [
+        (0, 0, 0),
+        (1000, 0, 0),
+        (7, 108000001, 0),
+        (7, -108000001, 0),
+        (7, 0, 54000001),
+        (7, 0, -54000001),
+    ];
     for (track, longitude, latitude) in beyond {
-        let place = Fix { track, longitude, latitude }.words().test(16);
+        let place = Fix {
+            track,
+            longitude,
+            latitude,
+        }
+            .words()
+            .test(16);
         check(place == Err(Refusal::IllegalFix { place: 16 }))?;
     }
     Ok(())
@@ -86,8 +120,16 @@ fn legal_fixes() -> Result<(), Fail> {
 
 #[test]
 fn words_of_a_fix() -> Result<(), Fail> {
-    let value = Fix { track: 7, longitude: -1, latitude: -2147483648 }.words();
+    let value = Fix {
+        track: 7,
+        longitude: -1,
+        latitude: -2147483648,
+    }.words();
     check(value.first == 7 && value.second == 0xffff_ffff && value.third == 0x8000_0000)?;
-    let fix = Fix::of(Value { first: 7, second: 0xffff_ffff, third: 0x8000_0000 });
+    let fix = Fix::of(Value {
+        first: 7,
+        second: 0xffff_ffff,
+        third: 0x8000_0000,
+    });
     check(fix.longitude == -1 && fix.latitude == -2147483648)
 }

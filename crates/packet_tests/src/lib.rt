@@ -2,6 +2,6 @@
 #[cfg(test)]
 mod fleets;
 #[cfg(test)]
-mod reading;
+mod reads;
 #[cfg(test)]
-mod writing;
+mod writes;

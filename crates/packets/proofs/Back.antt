@@ -91,7 +91,7 @@ tag-back limit b at t small fits h =
     let past : Held b (at + 4 + n) fill = next n t fill refl h4 in
     let long : at + 4 + padded n ≤ length b = omega (arith, length-drop at b, ap length (h .is), length-append (tagBytes t) (h .rest), length-tag t) in
     let filled : zeros (take (padded n - n) (drop (at + 4 + n) b)) ≡ true =
-        ap (λ l. zeros (take (padded n - n) l)) (past .is) ∙ ap zeros (take-at fill (past .rest) (padded n - n) (length-replicate (padded n - n) 0)) ∙ zeros-replicate (padded n - n) in
+    ap (λ l. zeros (take (padded n - n) l)) (past .is) ∙ ap zeros (take-at fill (past .rest) (padded n - n) (length-replicate (padded n - n) 0)) ∙ zeros-replicate (padded n - n) in
     let h′ = front t fill h4 in
     let held : take n (drop (at + 4) b) ≡ t = ap (take n) (h′ .is) ∙ take-at t (h′ .rest) n refl in
     let end : at + 4 + padded n ≡ at + length (tagBytes t) = omega (arith, length-tag t) in
@@ -152,10 +152,10 @@ turn-back limit b at m small fits h =
     let rest = certifiedBytes (m .committed) in
     let e : at + 4 + length body + length t + length rest ≡ at + length ((wordBytes 4 ++ body) ++ (t ++ rest)) = omega (arith, length-append body (t ++ rest), length-append t rest) in
     envelope-back b 4 (changeAt b) (tagAt limit b) (λ c. certifiedAt limit b (c .committed)) (λ s t a. record { head = s .0 .head; prepared = s .0 .prepared; committed = a .0; tag = t .0 })
-      at body t rest (changeOf m) (m .tag) (m .committed) (omega arith) h
-      (λ k. change-back b (at + 4) (changeOf m) (fits .change) k)
-      (λ p k. tag-back limit b p (m .tag) small (fits .tag) k)
-      (λ p k. certified-back limit b p (m .committed) small (fits .votes) k)
+    at body t rest (changeOf m) (m .tag) (m .committed) (omega arith) h
+    (λ k. change-back b (at + 4) (changeOf m) (fits .change) k)
+    (λ p k. tag-back limit b p (m .tag) small (fits .tag) k)
+    (λ p k. certified-back limit b p (m .committed) small (fits .votes) k)
     ∙ ap (λ n. Ok (m, n)) e
 
 turns-back : (limit : ℕ) (b : List ℕ) (at : ℕ) (ms : List Turn) → limit < 2 ^ 32 → TurnsFit limit ms → Held b at (turnsBytes ms) → manyAt (turnAt limit b) (length ms) at ≡ Ok (ms, at + length (turnsBytes ms))
@@ -198,17 +198,17 @@ message-back limit (propose c t ms) small fits =
     let b = messageBytes (propose c t ms) in
     rw (word-back b 0 1 (omega arith) (front (wordBytes 1) (claimBytes c ++ (tagBytes t ++ progressBytes ms)) (whole b)))
     (packet-back 1 (claimBytes c) (tagBytes t) (progressBytes ms) (claimAt b) (tagAt limit b) (λ c. progressAt limit b) (λ s t a. propose (s .0) (t .0) (a .0)) c t ms (omega arith)
-        (λ h. claim-back b 4 c (fits .0) h) (λ p h. tag-back limit b p t small (fits .1) h) (λ p h. progress-back limit b p ms small (fits .2) (fits .3) h))
+    (λ h. claim-back b 4 c (fits .0) h) (λ p h. tag-back limit b p t small (fits .1) h) (λ p h. progress-back limit b p ms small (fits .2) (fits .3) h))
 message-back limit (prepare c t) small fits =
     let b = messageBytes (prepare c t) in
     rw (word-back b 0 2 (omega arith) (front (wordBytes 2) (claimBytes c ++ (tagBytes t ++ [])) (whole b)))
     (packet-back 2 (claimBytes c) (tagBytes t) [] (claimAt b) (tagAt limit b) (λ c. nothingAt) (λ s t a. prepare (s .0) (t .0)) c t tt (omega arith)
-        (λ h. claim-back b 4 c (fits .0) h) (λ p h. tag-back limit b p t small (fits .1) h) (λ p h. nothing-back b p h))
+    (λ h. claim-back b 4 c (fits .0) h) (λ p h. tag-back limit b p t small (fits .1) h) (λ p h. nothing-back b p h))
 message-back limit (commit c t vs) small fits =
     let b = messageBytes (commit c t vs) in
     rw (word-back b 0 3 (omega arith) (front (wordBytes 3) (claimBytes c ++ (tagBytes t ++ certificateBytes vs)) (whole b)))
     (packet-back 3 (claimBytes c) (tagBytes t) (certificateBytes vs) (claimAt b) (tagAt limit b) (λ c. votesAt limit b) (λ s t a. commit (s .0) (t .0) (a .0)) c t vs (omega arith)
-        (λ h. claim-back b 4 c (fits .0) h) (λ p h. tag-back limit b p t small (fits .1) h) (λ p h. certificate-back limit b p vs small (fits .2) h))
+    (λ h. claim-back b 4 c (fits .0) h) (λ p h. tag-back limit b p t small (fits .1) h) (λ p h. certificate-back limit b p vs small (fits .2) h))
 message-back limit (new-view m) small fits =
     let b = messageBytes (new-view m) in
     let body = changeBytes (changeOf m) in
@@ -216,7 +216,7 @@ message-back limit (new-view m) small fits =
     rw (word-back b 0 4 (omega arith) (front (wordBytes 4) (body ++ (tagBytes (m .tag) ++ rest)) (whole b)))
     (ap (wholly b) (envelope-on b 4 (changeAt b) (tagAt limit b) (λ c. certifiedAt limit b (c .committed)) (λ s t a. record { head = s .0 .head; prepared = s .0 .prepared; committed = a .0; tag = t .0 }) new-view 0)
     ∙ packet-back 4 body (tagBytes (m .tag)) rest (changeAt b) (tagAt limit b) (λ c. certifiedAt limit b (c .committed)) (λ s t a. new-view (record { head = s .0 .head; prepared = s .0 .prepared; committed = a .0; tag = t .0 })) (changeOf m) (m .tag) (m .committed) (omega arith)
-        (λ h. change-back b 4 (changeOf m) (fits .change) h) (λ p h. tag-back limit b p (m .tag) small (fits .tag) h) (λ p h. certified-back limit b p (m .committed) small (fits .votes) h))
+    (λ h. change-back b 4 (changeOf m) (fits .change) h) (λ p h. tag-back limit b p (m .tag) small (fits .tag) h) (λ p h. certified-back limit b p (m .committed) small (fits .votes) h))
 
 -- the statement of a draft ends where it should
 pub draft-back : (limit : ℕ) (m : Content) → limit < 2 ^ 32 → ContentFits limit m → draftEnd limit (draftBytes m) ≡ Ok (length (statementBytes (statementOf m)))
@@ -225,17 +225,17 @@ draft-back limit (propose c t ms) small fits =
     let b = draftBytes (propose c t ms) in
     ap (λ r. bind r (draftBy limit b)) (word-back b 0 1 (omega arith) (front (wordBytes 1) (claimBytes c ++ progressBytes ms) (whole b)))
     ∙ packet-back 1 (claimBytes c) [] (progressBytes ms) (claimAt b) nothingAt (λ c. progressAt limit b) (λ s t a. s .1) c tt ms (omega arith)
-        (λ h. claim-back b 4 c (fits .0) h) (λ p h. nothing-back b p h) (λ p h. progress-back limit b p ms small (fits .2) (fits .3) h)
+    (λ h. claim-back b 4 c (fits .0) h) (λ p h. nothing-back b p h) (λ p h. progress-back limit b p ms small (fits .2) (fits .3) h)
 draft-back limit (prepare c t) small fits =
     let b = draftBytes (prepare c t) in
     ap (λ r. bind r (draftBy limit b)) (word-back b 0 2 (omega arith) (front (wordBytes 2) (claimBytes c ++ []) (whole b)))
     ∙ packet-back 2 (claimBytes c) [] [] (claimAt b) nothingAt (λ c. nothingAt) (λ s t a. s .1) c tt tt (omega arith)
-        (λ h. claim-back b 4 c (fits .0) h) (λ p h. nothing-back b p h) (λ p h. nothing-back b p h)
+    (λ h. claim-back b 4 c (fits .0) h) (λ p h. nothing-back b p h) (λ p h. nothing-back b p h)
 draft-back limit (commit c t vs) small fits =
     let b = draftBytes (commit c t vs) in
     ap (λ r. bind r (draftBy limit b)) (word-back b 0 3 (omega arith) (front (wordBytes 3) (claimBytes c ++ certificateBytes vs) (whole b)))
     ∙ packet-back 3 (claimBytes c) [] (certificateBytes vs) (claimAt b) nothingAt (λ c. votesAt limit b) (λ s t a. s .1) c tt vs (omega arith)
-        (λ h. claim-back b 4 c (fits .0) h) (λ p h. nothing-back b p h) (λ p h. certificate-back limit b p vs small (fits .2) h)
+    (λ h. claim-back b 4 c (fits .0) h) (λ p h. nothing-back b p h) (λ p h. certificate-back limit b p vs small (fits .2) h)
 draft-back limit (new-view m) small fits =
     let b = draftBytes (new-view m) in
     let body = changeBytes (changeOf m) in
@@ -243,7 +243,7 @@ draft-back limit (new-view m) small fits =
     let e : 4 + length body ≡ length (wordBytes 4 ++ body) = omega arith in
     ap (λ r. bind r (draftBy limit b)) (word-back b 0 4 (omega arith) (front (wordBytes 4) (body ++ rest) (whole b)))
     ∙ packet-back 4 body [] rest (changeAt b) nothingAt (λ c. certifiedAt limit b (c .committed)) (λ s t a. s .1) (changeOf m) tt (m .committed) (omega arith)
-        (λ h. change-back b 4 (changeOf m) (fits .change) h) (λ p h. nothing-back b p h) (λ p h. certified-back limit b p (m .committed) small (fits .votes) h)
+    (λ h. change-back b 4 (changeOf m) (fits .change) h) (λ p h. nothing-back b p h) (λ p h. certified-back limit b p (m .committed) small (fits .votes) h)
     ∙ ap Ok e
 
 -- ---- statements are told apart ----

@@ -23,9 +23,10 @@ front xs ys h = record { rest = ys ++ h .rest; is = h .is ∙ append-assoc xs ys
 
 pub next : {b : List ℕ} {at : ℕ} (n : ℕ) (xs ys : List ℕ) → length xs ≡ n → Held b at (xs ++ ys) → Held b (at + n) ys
 next {b} {at} n xs ys e h =
-    record
-    { rest = h .rest
-    ; is = sym (drop-drop n at b) ∙ ap (drop n) (h .is ∙ append-assoc xs ys (h .rest)) ∙ drop-at xs (ys ++ h .rest) n e }
+    record {
+      rest = h .rest;
+      is = sym (drop-drop n at b) ∙ ap (drop n) (h .is ∙ append-assoc xs ys (h .rest)) ∙ drop-at xs (ys ++ h .rest) n e;
+    }
 
 pub whole : (xs : List ℕ) → Held xs 0 xs
 whole xs = record { rest = []; is = sym (append-nil xs) }

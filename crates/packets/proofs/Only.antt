@@ -163,7 +163,7 @@ tag-only limit b at p bytes h =
     let m = padded n - n in
     let len : length (take n (drop (at + 4) b)) ≡ n = length-take-le n (drop (at + 4) b) (omega (arith, length-drop (at + 4) b)) in
     let fill : take m (drop (at + 4 + n) b) ≡ replicate m 0 =
-        zeros-are (take m (drop (at + 4 + n) b)) (a .1) ∙ ap (λ (z : ℕ). replicate z 0) (length-take-le m (drop (at + 4 + n) b) (omega (arith, length-drop (at + 4 + n) b))) in
+    zeros-are (take m (drop (at + 4 + n) b)) (a .1) ∙ ap (λ (z : ℕ). replicate z 0) (length-take-le m (drop (at + 4 + n) b) (omega (arith, length-drop (at + 4 + n) b))) in
     let e : at + 4 + n + m ≡ at + 4 + padded n = omega arith in
     let tail = rw (e, fill) at (cut b (at + 4 + n) m (omega arith)) in
     rw (sym (ok-same (q .1)), len) (joins (word-only b at n bytes (w .1) .is) (joins (cut b (at + 4) n (omega arith)) tail))
@@ -226,15 +226,16 @@ module _ {S T A M : Type 0} (b : List ℕ) (at k : ℕ) (st : ℕ → Result (S 
       let y = bind-ok (st (x .0)) _ p (x .2) in
       let z = bind-ok (tg (y .0 .1)) _ p (y .2) in
       let u = bind-ok (att (y .0 .0) (z .0 .1)) _ p (z .2) in
-      record
-      { kind = w .1 ∙ ap Ok (eqb-true (w .0) k (r .0))
-      ; said = y .0
-      ; said-is = ap st e ∙ y .1
-      ; tagged = z .0
-      ; tagged-is = z .1
-      ; attached = u .0
-      ; attached-is = u .1
-      ; is = ok-same (u .2) }
+      record {
+        kind = w .1 ∙ ap Ok (eqb-true (w .0) k (r .0));
+        said = y .0;
+        said-is = ap st e ∙ y .1;
+        tagged = z .0;
+        tagged-is = z .1;
+        attached = u .0;
+        attached-is = u .1;
+        is = ok-same (u .2);
+      }
 
 pub turn-only : (limit : ℕ) (b : List ℕ) (at : ℕ) (p : Turn × ℕ) → Bytes b → turnAt limit b at ≡ Ok p → Stands b at (turnBytes (p .0)) (p .1) × TurnFits limit (p .0)
 unfolding turnAt turnBytes

@@ -113,9 +113,9 @@ sealed-reads-back limit draft tag out n small bytes h =
     let d = draft-only limit draft (p .end) bytes (p .ends) in
     let m = d .0 in
     let is : sealedBytes draft (p .end) tag ≡ messageBytes (withTag tag m) =
-        ap (λ (l : List ℕ). sealedBytes l (p .end) tag) (d .1 .is) ∙ ap (λ (k : ℕ). sealedBytes (draftBytes m) k tag) (d .1 .ends) ∙ sealed-is tag m in
+    ap (λ (l : List ℕ). sealedBytes l (p .end) tag) (d .1 .is) ∙ ap (λ (k : ℕ). sealedBytes (draftBytes m) k tag) (d .1 .ends) ∙ sealed-is tag m in
     let taken : take n (sealing limit draft tag out .1) ≡ messageBytes (withTag tag m) =
-        ap (take n) (p .holds) ∙ take-at (sealedBytes draft (p .end) tag) (drop (length (sealedBytes draft (p .end) tag)) out) n (sym (p .long)) ∙ is in
+    ap (take n) (p .holds) ∙ take-at (sealedBytes draft (p .end) tag) (drop (length (sealedBytes draft (p .end) tag)) out) n (sym (p .long)) ∙ is in
     (m, d .1 .is, ap (messageOf limit) taken ∙ message-back limit (withTag tag m) (omega arith) (d .1 .fits tag (leb-true (length tag) limit (p .fits))))
 
 pub drafts-are-sealed : Drafts-are-sealed
@@ -148,6 +148,7 @@ pub shortest : Shortest
 shortest = (λ limit b m bytes h. rw (message-only limit b bytes m h .0) (long-enough m), λ h v. (refl, refl, refl, refl))
 
 pub fixes-are-words : Fixes-are-words
-fixes-are-words =
-    ( λ v fits. rw (ofZ-toZ w32 (v .second) (fits .second), ofZ-toZ w32 (v .third) (fits .third))
-    , λ f east north. rw (toZ-ofZ w32 (f .longitude) east, toZ-ofZ w32 (f .latitude) north) )
+fixes-are-words = (
+  λ v fits. rw (ofZ-toZ w32 (v .second) (fits .second), ofZ-toZ w32 (v .third) (fits .third)),
+  λ f east north. rw (toZ-ofZ w32 (f .longitude) east, toZ-ofZ w32 (f .latitude) north),
+)

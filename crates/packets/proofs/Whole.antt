@@ -140,11 +140,14 @@ module _ (limit : ℕ) (b : List ℕ) (end : ℕ) (bytes : Bytes b) where
   turned : (c : ViewChange) (o : Option Certified) → reported o ≡ c .committed → b ≡ (wordBytes 4 ++ changeBytes c) ++ certifiedBytes o → end ≡ length (wordBytes 4 ++ changeBytes c) → ChangeFits c → CertifiedFits limit o → Draft
   turned c o e is ends fits votes =
       let m : Turn = record { head = c .head; prepared = c .prepared; committed = o; tag = [] } in
-      let same : c ≡ changeOf m = ap (λ q. record { head = c .head; prepared = c .prepared; committed = q }) (sym e) in
-      (new-view m, record
-      { is = is ∙ ap (λ (d : ViewChange). (wordBytes 4 ++ changeBytes d) ++ certifiedBytes o) same
-      ; ends = ends ∙ ap (λ (d : ViewChange). length (wordBytes 4 ++ changeBytes d)) same
-      ; fits = λ t l. record { change = subst ChangeFits same fits; tag = l; votes = votes } })
+      let same : c ≡ changeOf m = ap (λ q. record { head = c .head; prepared = c .prepared; committed = q }) (sym e) in (
+        new-view m,
+        record {
+          is = is ∙ ap (λ (d : ViewChange). (wordBytes 4 ++ changeBytes d) ++ certifiedBytes o) same;
+          ends = ends ∙ ap (λ (d : ViewChange). length (wordBytes 4 ++ changeBytes d)) same;
+          fits = λ t l. record { change = subst ChangeFits same fits; tag = l; votes = votes };
+        },
+      )
 
   new-view-draft : draftAs 4 (changeAt b) (λ c. certifiedAt limit b (c .committed)) b ≡ Ok end → Draft
   new-view-draft h =

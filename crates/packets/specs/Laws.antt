@@ -38,25 +38,26 @@ readingOf limit b = faulted (mapOk (locate b) (messageOf limit b))
 -- the parts of a content: its tag stands behind its statement, its attachment behind its tag
 abbrev pub partsOf : Content → Pieces Statement
 partsOf m =
-    record
-    { statement = statementOf m
-    ; tag = record { place = length (statementBytes (statementOf m)); bytes = tagOf m }
-    ; attachment = record { place = length (statementBytes (statementOf m)) + length (tagBytes (tagOf m)); bytes = attachmentBytes m } }
+    record {
+      statement = statementOf m;
+      tag = record { place = length (statementBytes (statementOf m)); bytes = tagOf m };
+      attachment = record { place = length (statementBytes (statementOf m)) + length (tagBytes (tagOf m)); bytes = attachmentBytes m };
+    }
 
 -- what is written reads back as the same message, with its parts at their places
 abbrev pub Written-reads-back : Type 0
 Written-reads-back = (limit : ℕ) (m : Content) → limit ≤ 2048 → ContentFits limit m
-  → (messageOf limit (messageBytes m) ≡ Ok m) × (readingOf limit (messageBytes m) ≡ Ok (partsOf m))
+    → (messageOf limit (messageBytes m) ≡ Ok m) × (readingOf limit (messageBytes m) ≡ Ok (partsOf m))
 
 -- bytes that read as a message are the ones that writing it gives
 abbrev pub One-byte-string : Type 0
 One-byte-string = (limit : ℕ) (b : List ℕ) (m : Content) → Bytes b → messageOf limit b ≡ Ok m
-  → (b ≡ messageBytes m) × ContentFits limit m
+    → (b ≡ messageBytes m) × ContentFits limit m
 
 -- the parts that are read, written one behind the other, are the packet
 abbrev pub Parts-are-the-packet : Type 0
 Parts-are-the-packet = (limit : ℕ) (b : List ℕ) (p : Pieces Statement) → Bytes b → readingOf limit b ≡ Ok p
-  → statementBytes (p .statement) ++ (tagBytes (p .tag .bytes) ++ p .attachment .bytes) ≡ b
+    → statementBytes (p .statement) ++ (tagBytes (p .tag .bytes) ++ p .attachment .bytes) ≡ b
 
 -- two different statements never have the same bytes
 abbrev pub Statements-told-apart : Type 0
@@ -65,25 +66,25 @@ Statements-told-apart = (s t : Statement) → StatementFits s → StatementFits 
 -- a draft that is sealed reads back as its message, with the tag put in
 abbrev pub Sealed-reads-back : Type 0
 Sealed-reads-back = (limit : ℕ) (draft tag out : List ℕ) (n : ℕ) → limit ≤ 2048 → Bytes draft → sealing limit draft tag out .0 ≡ Ok n
-  → (m : Content) × (draft ≡ draftBytes m) × (messageOf limit (take n (sealing limit draft tag out .1)) ≡ Ok (withTag tag m))
+    → (m : Content) × (draft ≡ draftBytes m) × (messageOf limit (take n (sealing limit draft tag out .1)) ≡ Ok (withTag tag m))
 
 -- the draft of a message is sealed, if the tag is short enough and out long enough
 abbrev pub Drafts-are-sealed : Type 0
 Drafts-are-sealed = (limit : ℕ) (m : Content) (tag out : List ℕ) → limit ≤ 2048 → ContentFits limit m → length tag ≤ limit → length (draftBytes m) + (limit + 4) ≤ length out
-  → sealing limit (draftBytes m) tag out .0 ≡ Ok (length (messageBytes (withTag tag m)))
+    → sealing limit (draftBytes m) tag out .0 ≡ Ok (length (messageBytes (withTag tag m)))
 
 -- no message is shorter than the shortest of its kind, and there is one so short
 abbrev pub Shortest : Type 0
 Shortest =
-  ((limit : ℕ) (b : List ℕ) (m : Content) → Bytes b → messageOf limit b ≡ Ok m → (n : ℕ) × (shortestOf (kindOf (statementOf m)) ≡ Some n) × (n ≤ length b))
-  × ((h : Head) (v : Value) →
-      (Some (length (messageBytes (propose (record { head = h; value = v }) [] []))) ≡ shortestOf 1)
-      × (Some (length (messageBytes (prepare (record { head = h; value = v }) []))) ≡ shortestOf 2)
-      × (Some (length (messageBytes (commit (record { head = h; value = v }) [] []))) ≡ shortestOf 3)
-      × (Some (length (messageBytes (new-view (record { head = h; prepared = None; committed = None; tag = [] })))) ≡ shortestOf 4))
+    ((limit : ℕ) (b : List ℕ) (m : Content) → Bytes b → messageOf limit b ≡ Ok m → (n : ℕ) × (shortestOf (kindOf (statementOf m)) ≡ Some n) × (n ≤ length b))
+    × ((h : Head) (v : Value) →
+    (Some (length (messageBytes (propose (record { head = h; value = v }) [] []))) ≡ shortestOf 1)
+    × (Some (length (messageBytes (prepare (record { head = h; value = v }) []))) ≡ shortestOf 2)
+    × (Some (length (messageBytes (commit (record { head = h; value = v }) [] []))) ≡ shortestOf 3)
+    × (Some (length (messageBytes (new-view (record { head = h; prepared = None; committed = None; tag = [] })))) ≡ shortestOf 4))
 
 -- three words are read as one fix, and one fix is written as three words
 abbrev pub Fixes-are-words : Type 0
 Fixes-are-words =
-  ((v : Value) → ValueFits v → wordsOf (fixOf v) ≡ v)
-  × ((f : Fix) → SFits w32 (f .longitude) → SFits w32 (f .latitude) → fixOf (wordsOf f) ≡ f)
+    ((v : Value) → ValueFits v → wordsOf (fixOf v) ≡ v)
+    × ((f : Fix) → SFits w32 (f .longitude) → SFits w32 (f .latitude) → fixOf (wordsOf f) ≡ f)

@@ -4,12 +4,12 @@ ghost use Rattle.values.specs.Refusals.{answered};
 ghost use Rattle.messages.specs.Parts.{told};
 ghost use Rattle.writing.specs.Written.{drafting, sending, sealing};
 ghost use Rattle.packets.specs.Laws.{readingOf, Written-reads-back, One-byte-string, Parts-are-the-packet, Statements-told-apart, Sealed-reads-back, Drafts-are-sealed, Shortest, Fixes-are-words};
+use messages::Message;
+use messages::read_message;
 use values::Refusal;
 use values::TagLimit;
-use messages::Message;
 use wire::RefusalFromMalformed;
 use wire::Statement;
-use messages::read_message;
 use writing::write_message;
 
 // Which of the four messages a packet is, with its parts and their places.

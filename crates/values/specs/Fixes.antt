@@ -2,7 +2,7 @@
 use mathlib.Core.Bool.{Bool, cond, _&&_}
 use Prim.Native.Nat.{ℕ, _/_, _%_}
 use lib.Dec.{leb}
-use lib.IntN.{ℤ, pos, negsuc, natAbs}
+use lib.IntN.{ℤ, pos, negsuc}
 use lib.Signed.{leZ}
 use mir.Val.{toZ, ofZ}
 use mir.Syntax.{w32}
@@ -13,9 +13,9 @@ use Rattle.values.specs.declared.fix.Angle.{Angle}
 use Rattle.values.specs.declared.fix.Fix.{Fix}
 use Rattle.values.specs.Refusals.{Refused, illegal}
 
--- a coordinate's size in degrees, minutes and 1/10,000 minutes
-abbrev pub angleOf : ℤ → Angle
-angleOf z = record { degrees = natAbs z / 600000; minutes = natAbs z / 10000 % 60; parts = natAbs z % 10000 }
+-- 1/10,000 minutes, as degrees, minutes and the rest
+abbrev pub angleOf : ℕ → Angle
+angleOf n = record { degrees = n / 600000; minutes = n / 10000 % 60; parts = n % 10000 }
 
 -- longitude and latitude are words in two's complement
 abbrev pub fixOf : Value → Fix

@@ -37,16 +37,20 @@ pub struct Angle {
 }
 
 impl Angle {
-    pub fn of(coordinate: i32) -> Angle
-        ensures { λ r. ⌜ r ≡ angleOf coordinate ⌝ }
+    pub fn of(size: u32) -> Angle
+        ensures { λ r. ⌜ r ≡ angleOf size ⌝ }
     {
-        let size = coordinate.unsigned_abs();
-        Angle { degrees: size / 600_000, minutes: size / 10_000 % 60, parts: size % 10_000 }
+        Angle {
+            degrees: size / 600_000,
+            minutes: size / 10_000 % 60,
+            parts: size % 10_000,
+        }
     }
 }
 
 // The greatest longitude and latitude, either way.
 const MERIDIAN: i32 = 108_000_000;
+
 const POLE: i32 = 54_000_000;
 
 fn legal_track(track: u32) -> bool
@@ -65,13 +69,21 @@ impl Fix {
     pub fn of(value: Value) -> Fix
         ensures { λ r. ⌜ r ≡ fixOf value ⌝ }
     {
-        Fix { track: value.first, longitude: value.second.cast_signed(), latitude: value.third.cast_signed() }
+        Fix {
+            track: value.first,
+            longitude: value.second.cast_signed(),
+            latitude: value.third.cast_signed(),
+        }
     }
 
     pub fn words(&self) -> Value
         ensures { λ r. ⌜ r ≡ wordsOf (now (self .entry)) ⌝ }
     {
-        Value { first: self.track, second: self.longitude.cast_unsigned(), third: self.latitude.cast_unsigned() }
+        Value {
+            first: self.track,
+            second: self.longitude.cast_unsigned(),
+            third: self.latitude.cast_unsigned(),
+        }
     }
 
     pub fn is_legal(&self) -> bool

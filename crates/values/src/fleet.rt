@@ -61,7 +61,7 @@ impl Fleet {
     pub fn progress_quorum(&self) -> u32
         ensures { λ r. ⌜ r ≡ progressQuorum (now (self .entry) .f) (now (self .entry) .t) ⌝ }
     {
-        self.n() - self.f
+        self.n() - self.f()
     }
 
     pub fn leader(&self, view: View) -> u32

@@ -43,7 +43,11 @@ pub trait Counted {
 }
 
 // The place behind a count word up to 16 and so many of them.
-pub fn counted_end<C: Counted>(packet: &[u8], at: usize, limit: TagLimit) -> Result<usize, Malformed>
+pub fn counted_end<C: Counted>(
+    packet: &[u8],
+    at: usize,
+    limit: TagLimit,
+) -> Result<usize, Malformed>
     ensures value { λ r. ⌜ r ≡ countedEnd (C·Counted .ends (limit .bytes) (now (packet .entry))) (now (packet .entry)) at ⌝ }
     ensures within { λ r. ⌜ made r (λ e. Inside at e (now (packet .entry))) ⌝ }
 {

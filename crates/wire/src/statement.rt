@@ -48,7 +48,11 @@ fn value_at(packet: &[u8], at: usize) -> Result<Value, Malformed>
     let first = word_at(packet, at)?;
     let second = word_at(packet, at + 4)?;
     let third = word_at(packet, at + 8)?;
-    Ok(Value { first, second, third })
+    Ok(Value {
+        first,
+        second,
+        third,
+    })
 }
 
 fn head_at(packet: &[u8], at: usize) -> Result<Head, Malformed>
@@ -95,5 +99,12 @@ pub fn view_change_at(packet: &[u8], at: usize) -> Result<(ViewChange, usize), M
     let head = head_at(packet, at)?;
     let (prepared, next) = report_at(packet, at + 12)?;
     let (committed, end) = report_at(packet, next)?;
-    Ok((ViewChange { head, prepared, committed }, end))
+    Ok((
+        ViewChange {
+            head,
+            prepared,
+            committed,
+        },
+        end,
+    ))
 }

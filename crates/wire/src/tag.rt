@@ -46,8 +46,17 @@ pub fn tag_at(packet: &[u8], at: usize, limit: TagLimit) -> Result<(Part<'_>, us
     let len = word_at(packet, at)? as usize;
     let start = at + 4;
     let filled = pad(len);
-    if len > limit.bytes() || filled > packet.len() - start || !all_zero(&packet[start + len..start + filled]) {
+    if len > limit.bytes()
+        || filled > packet.len() - start
+        || !all_zero(&packet[start + len..start + filled])
+    {
         return Err(Malformed { place: at });
     }
-    Ok((Part { place: at, bytes: &packet[start..start + len] }, start + filled))
+    Ok((
+        Part {
+            place: at,
+            bytes: &packet[start..start + len],
+        },
+        start + filled,
+    ))
 }

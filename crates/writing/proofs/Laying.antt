@@ -29,7 +29,7 @@ laid-more o xs ys at n e h =
     let front : take n (p ++ (xs ++ d)) ≡ p ++ xs = ap (take n) split ∙ take-at (p ++ xs) d n long in
     let rest : drop n (p ++ (xs ++ d)) ≡ d = ap (drop n) split ∙ drop-at (p ++ xs) d n long in
     let back : drop (n + length ys) (p ++ (xs ++ d)) ≡ drop (at + length xs + length ys) o =
-        sym (drop-drop (length ys) n (p ++ (xs ++ d))) ∙ ap (drop (length ys)) rest ∙ drop-drop (length ys) (at + length xs) o in
+    sym (drop-drop (length ys) n (p ++ (xs ++ d))) ∙ ap (drop (length ys)) rest ∙ drop-drop (length ys) (at + length xs) o in
     let place : at + length xs + length ys ≡ at + length (xs ++ ys) = omega (arith, length-append xs ys) in
     rw (front, back, place) (append-assoc p xs (ys ++ drop (at + length (xs ++ ys)) o) ∙ ap (λ l. p ++ l) (sym (append-assoc xs ys (drop (at + length (xs ++ ys)) o))))
 
@@ -45,10 +45,11 @@ length-laid o xs at h = simp (length-append, length-take, length-drop) (omega ar
 pub then : {o o′ o″ xs ys : List ℕ} {at n m : ℕ} → Lays o at xs o′ n → Lays o′ n ys o″ m → Lays o at (xs ++ ys) o″ m
 then {o} {o′} {o″} {xs} {ys} {at} {n} {m} e f =
     let long : length o′ ≡ length o = ap length (e .is) ∙ length-laid o xs at (omega (arith, e .ends, e .inside)) in
-    record
-    { is = f .is ∙ ap (λ l. laid l n ys) (e .is) ∙ laid-more o xs ys at n (e .ends) (omega (arith, e .ends, e .inside))
-    ; ends = omega (arith, e .ends, f .ends, length-append xs ys)
-    ; inside = omega (arith, f .inside) }
+    record {
+      is = f .is ∙ ap (λ l. laid l n ys) (e .is) ∙ laid-more o xs ys at n (e .ends) (omega (arith, e .ends, e .inside));
+      ends = omega (arith, e .ends, f .ends, length-append xs ys);
+      inside = omega (arith, f .inside);
+    }
 
 pub from-start : {o o′ xs : List ℕ} {n : ℕ} → Lays o 0 xs o′ n → o′ ≡ xs ++ drop (length xs) o
 from-start {o} {o′} {xs} e = e .is ∙ laid-start o xs

@@ -10,12 +10,12 @@ use super::pieces::put;
 use super::pieces::put_statement;
 use super::pieces::put_tag;
 use super::pieces::statement_length;
+use messages::Message;
+use messages::draft_end;
 use values::Refusal;
 use values::TagLimit;
-use messages::Message;
 use wire::RefusalFromMalformed;
 use wire::Statement;
-use messages::draft_end;
 use wire::pad;
 
 fn has_room(out: &[u8], first: usize, second: usize) -> bool
@@ -25,7 +25,11 @@ fn has_room(out: &[u8], first: usize, second: usize) -> bool
 }
 
 // A statement and its attachment, at the start of `out`; answers their length.
-pub fn write_draft(statement: Statement, attachment: &[u8], out: &mut [u8]) -> Result<usize, Refusal>
+pub fn write_draft(
+    statement: Statement,
+    attachment: &[u8],
+    out: &mut [u8],
+) -> Result<usize, Refusal>
     ensures value { λ r. ⌜ answered (λ n. n) r ≡ drafting statement (now (attachment .entry)) (now (out .entry)) .0 ⌝ }
     ensures after { λ _. ⌜ now (out .exit) ≡ drafting statement (now (attachment .entry)) (now (out .entry)) .1 ⌝ }
 {
@@ -38,7 +42,13 @@ pub fn write_draft(statement: Statement, attachment: &[u8], out: &mut [u8]) -> R
 }
 
 // Statement, tag and attachment, at the start of `out`; answers their length.
-fn write_parts(statement: Statement, tag: &[u8], attachment: &[u8], limit: TagLimit, out: &mut [u8]) -> Result<usize, Refusal>
+fn write_parts(
+    statement: Statement,
+    tag: &[u8],
+    attachment: &[u8],
+    limit: TagLimit,
+    out: &mut [u8],
+) -> Result<usize, Refusal>
     ensures value { λ r. ⌜ answered (λ n. n) r ≡ sendingOf (limit .bytes) statement (now (tag .entry)) (now (attachment .entry)) (now (out .entry)) .0 ⌝ }
     ensures after { λ _. ⌜ now (out .exit) ≡ sendingOf (limit .bytes) statement (now (tag .entry)) (now (attachment .entry)) (now (out .entry)) .1 ⌝ }
 {
@@ -55,15 +65,55 @@ fn write_parts(statement: Statement, tag: &[u8], attachment: &[u8], limit: TagLi
 }
 
 // A whole message, at the start of `out`; answers its length.
-pub fn write_message(message: Message<'_>, limit: TagLimit, out: &mut [u8]) -> Result<usize, Refusal>
+pub fn write_message(
+    message: Message<'_>,
+    limit: TagLimit,
+    out: &mut [u8],
+) -> Result<usize, Refusal>
     ensures value { λ r. ⌜ answered (λ n. n) r ≡ sending (limit .bytes) (told (message .entry)) (now (out .entry)) .0 ⌝ }
     ensures after { λ _. ⌜ now (out .exit) ≡ sending (limit .bytes) (told (message .entry)) (now (out .entry)) .1 ⌝ }
 {
     match message {
-        Message::Propose { claim, tag, progress } => write_parts(Statement::Propose(claim), tag.bytes, progress.bytes, limit, out),
-        Message::Prepare { claim, tag } => write_parts(Statement::Prepare(claim), tag.bytes, &[], limit, out),
-        Message::Commit { claim, tag, certificate } => write_parts(Statement::Commit(claim), tag.bytes, certificate.bytes, limit, out),
-        Message::NewView { change, tag, certificate } => write_parts(Statement::NewView(change), tag.bytes, certificate.bytes, limit, out),
+        Message::Propose {
+            claim,
+            tag,
+            progress,
+        } => write_parts(
+            Statement::Propose(claim),
+            tag.bytes,
+            progress.bytes,
+            limit,
+            out,
+        ),
+        Message::Prepare { claim, tag } => write_parts(
+            Statement::Prepare(claim),
+            tag.bytes,
+            &[],
+            limit,
+            out,
+        ),
+        Message::Commit {
+            claim,
+            tag,
+            certificate,
+        } => write_parts(
+            Statement::Commit(claim),
+            tag.bytes,
+            certificate.bytes,
+            limit,
+            out,
+        ),
+        Message::NewView {
+            change,
+            tag,
+            certificate,
+        } => write_parts(
+            Statement::NewView(change),
+            tag.bytes,
+            certificate.bytes,
+            limit,
+            out,
+        ),
     }
 }
 

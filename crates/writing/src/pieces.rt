@@ -6,18 +6,18 @@ ghost use lib.ListN.{length, replicate};
 ghost use Rattle.wire.specs.Words.{wordBytes};
 ghost use Rattle.wire.specs.Contents.{valueBytes, headBytes, reportBytes, claimBytes, changeBytes, statementBytes, tagBytes};
 ghost use Rattle.writing.specs.Lays.{Lays};
-use values::Report;
-use values::Value;
-use wire::Claim;
 use messages::Commit;
 use messages::CommitKind;
-use wire::Head;
 use messages::NewView;
 use messages::NewViewKind;
 use messages::Prepare;
 use messages::PrepareKind;
 use messages::Propose;
 use messages::ProposeKind;
+use values::Report;
+use values::Value;
+use wire::Claim;
+use wire::Head;
 use wire::Statement;
 use wire::ViewChange;
 use wire::pad;
@@ -149,6 +149,8 @@ pub fn statement_length(statement: Statement) -> usize
 {
     match statement {
         Statement::Propose(_) | Statement::Prepare(_) | Statement::Commit(_) => 28,
-        Statement::NewView(change) => 16 + report_length(change.prepared) + report_length(change.committed),
+        Statement::NewView(change) => 16
+            + report_length(change.prepared)
+            + report_length(change.committed),
     }
 }

@@ -53,6 +53,7 @@ returns c =
     let room = le-leb (length (c .args .draft .now) + (c .args .limit .bytes + 4)) (length (c .args .out .now)) (omega arith) in
     let parts = then (c .put-next .ensures .after) (then (c .put-tag-next .ensures .after) (c .put .ensures .after)) in
     let whole = simp (c .split-at .ensures .front, c .split-at .ensures .back) at parts in
-    record
-    { value = simp (fits, room, known) (ap Ok (whole .ends ∙ zero-add _))
-    ; after = simp (fits, room, known) (from-start whole) }
+    record {
+      value = simp (fits, room, known) (ap Ok (whole .ends ∙ zero-add _));
+      after = simp (fits, room, known) (from-start whole);
+    }

@@ -4,6 +4,7 @@ use Rattle.writing.proofs.pieces.put_claim.Needs as need
 
 pub returns : need.returns
 returns c =
-    record
-    { next = search needs
-    ; after = then (c .put-word-next .ensures .after) (then (c .put-head-next .ensures .after) (c .put-value .ensures .after)) }
+    record {
+      next = search needs;
+      after = then (c .put-word-next .ensures .after) (then (c .put-head-next .ensures .after) (c .put-value .ensures .after));
+    }

@@ -12,6 +12,7 @@ put-zeros-requires c κs = omega (arith, length-tag (c .args .tag .now))
 
 pub returns : need.returns
 returns c =
-    record
-    { next = omega (arith, length-tag (c .args .tag .now))
-    ; after = then (c .put-word-next .ensures .after) (then (c .put-next .ensures .after) (simp (c .pad .ensures) at (c .put-zeros .ensures .after))) }
+    record {
+      next = omega (arith, length-tag (c .args .tag .now));
+      after = then (c .put-word-next .ensures .after) (then (c .put-next .ensures .after) (simp (c .pad .ensures) at (c .put-zeros .ensures .after)));
+    }

@@ -4,6 +4,7 @@ use Rattle.writing.proofs.pieces.put_value.Needs as need
 
 pub returns : need.returns
 returns c =
-    record
-    { next = search needs
-    ; after = then (c .put-word-next .ensures .after) (then (c .put-word-next-2 .ensures .after) (c .put-word .ensures .after)) }
+    record {
+      next = search needs;
+      after = then (c .put-word-next .ensures .after) (then (c .put-word-next-2 .ensures .after) (c .put-word .ensures .after));
+    }

@@ -7,18 +7,183 @@ use values::TagLimit;
 
 // Of (7, 600000, 30000000) in round 9, view 1: proposed by site 0, prepared by site 1.
 const PROPOSE: [u8; 40] = [
-    0, 0, 0, 1, 0, 0, 0, 9, 0, 0, 0, 1, 0, 0, 0, 0, 0, 0, 0, 7, 0x00, 0x09, 0x27, 0xc0, 0x01, 0xc9, 0xc3, 0x80, 0, 0, 0, 2, 0xab, 0xcd, 0, 0, 0, 0, 0, 0,
+    0,
+    0,
+    0,
+    1,
+    0,
+    0,
+    0,
+    9,
+    0,
+    0,
+    0,
+    1,
+    0,
+    0,
+    0,
+    0,
+    0,
+    0,
+    0,
+    7,
+    0x00,
+    0x09,
+    0x27,
+    0xc0,
+    0x01,
+    0xc9,
+    0xc3,
+    0x80,
+    0,
+    0,
+    0,
+    2,
+    0xab,
+    0xcd,
+    0,
+    0,
+    0,
+    0,
+    0,
+    0,
 ];
+
 const PREPARE: [u8; 36] = [
-    0, 0, 0, 2, 0, 0, 0, 9, 0, 0, 0, 1, 0, 0, 0, 1, 0, 0, 0, 7, 0x00, 0x09, 0x27, 0xc0, 0x01, 0xc9, 0xc3, 0x80, 0, 0, 0, 4, 1, 2, 3, 4,
+    0,
+    0,
+    0,
+    2,
+    0,
+    0,
+    0,
+    9,
+    0,
+    0,
+    0,
+    1,
+    0,
+    0,
+    0,
+    1,
+    0,
+    0,
+    0,
+    7,
+    0x00,
+    0x09,
+    0x27,
+    0xc0,
+    0x01,
+    0xc9,
+    0xc3,
+    0x80,
+    0,
+    0,
+    0,
+    4,
+    1,
+    2,
+    3,
+    4,
 ];
 // Committed by site 2, with a certificate of one entry: site 3, tag 9.
 const COMMIT: [u8; 48] = [
-    0, 0, 0, 3, 0, 0, 0, 9, 0, 0, 0, 1, 0, 0, 0, 2, 0, 0, 0, 7, 0x00, 0x09, 0x27, 0xc0, 0x01, 0xc9, 0xc3, 0x80, 0, 0, 0, 0, 0, 0, 0, 1, 0, 0, 0, 3, 0, 0, 0, 1, 9, 0, 0, 0,
+    0,
+    0,
+    0,
+    3,
+    0,
+    0,
+    0,
+    9,
+    0,
+    0,
+    0,
+    1,
+    0,
+    0,
+    0,
+    2,
+    0,
+    0,
+    0,
+    7,
+    0x00,
+    0x09,
+    0x27,
+    0xc0,
+    0x01,
+    0xc9,
+    0xc3,
+    0x80,
+    0,
+    0,
+    0,
+    0,
+    0,
+    0,
+    0,
+    1,
+    0,
+    0,
+    0,
+    3,
+    0,
+    0,
+    0,
+    1,
+    9,
+    0,
+    0,
+    0,
 ];
 // Site 3 moves to view 2, prepared in view 1, committed nothing.
 const NEW_VIEW: [u8; 44] = [
-    0, 0, 0, 4, 0, 0, 0, 9, 0, 0, 0, 2, 0, 0, 0, 3, 0, 0, 0, 1, 0, 0, 0, 1, 0, 0, 0, 7, 0x00, 0x09, 0x27, 0xc0, 0x01, 0xc9, 0xc3, 0x80, 0, 0, 0, 0, 0, 0, 0, 0,
+    0,
+    0,
+    0,
+    4,
+    0,
+    0,
+    0,
+    9,
+    0,
+    0,
+    0,
+    2,
+    0,
+    0,
+    0,
+    3,
+    0,
+    0,
+    0,
+    1,
+    0,
+    0,
+    0,
+    1,
+    0,
+    0,
+    0,
+    7,
+    0x00,
+    0x09,
+    0x27,
+    0xc0,
+    0x01,
+    0xc9,
+    0xc3,
+    0x80,
+    0,
+    0,
+    0,
+    0,
+    0,
+    0,
+    0,
+    0,
 ];
 
 // The place of a layout fault, or none where the packet is read.
@@ -36,13 +201,12 @@ fn fault(packet: &[u8]) -> Result<Option<usize>, Fail> {
 }
 
 // A packet with one byte changed.
-fn damaged(packet: &[u8], at: usize, byte: u8) -> Result<Option<usize>, Fail> {
-    let mut copy = [0u8; 64];
-    let len = packet.len();
-    check(len <= 64 && at < 64)?;
-    copy[0..len].copy_from_slice(packet);
-    copy[at] = byte;
-    fault(&copy[0..len])
+fn damaged<const N: usize>(packet: [u8; N], at: usize, byte: u8) -> Result<Option<usize>, Fail> {
+    let mut copy = packet;
+    if at < copy.len() {
+        copy[at] = byte;
+    }
+    fault(&copy)
 }
 
 #[test]
@@ -72,7 +236,14 @@ fn certificates_have_places() -> Result<(), Fail> {
         return Err(Fail::new("no propose"));
     };
     check(tag.bytes == [0xabu8, 0xcd] && progress.place == 36 && progress.bytes.len() == 4)?;
-    let Ok(Message::NewView { change, tag, certificate }) = read(&NEW_VIEW, limit) else {
+    let Ok(
+        Message::NewView {
+            change,
+            tag,
+            certificate,
+        },
+    ) = read(&NEW_VIEW, limit)
+    else {
         return Err(Fail::new("no new-view"));
     };
     check(change.prepared.is_some() && change.committed.is_none())?;
@@ -103,13 +274,13 @@ fn cut_at_each_word() -> Result<(), Fail> {
 #[test]
 fn damaged_packets() -> Result<(), Fail> {
     check(fault(&PREPARE)?.is_none() && fault(&COMMIT)?.is_none())?;
-    check(damaged(&PREPARE, 3, 5)? == Some(0)).note("kind 5")?;
-    check(damaged(&PREPARE, 31, 5)? == Some(28)).note("a tag of 5 bytes")?;
-    check(damaged(&PREPARE, 31, 3)? == Some(28)).note("filled with a 4")?;
-    check(damaged(&PREPARE, 31, 0)? == Some(32)).note("left over")?;
-    check(damaged(&COMMIT, 35, 17)? == Some(32)).note("a count of 17")?;
-    check(damaged(&COMMIT, 35, 16)? == Some(48)).note("a count of 16, cut")?;
-    check(damaged(&COMMIT, 45, 1)? == Some(40)).note("filled with a 1")?;
-    check(damaged(&NEW_VIEW, 19, 2)? == Some(16)).note("a bool of 2")?;
-    check(damaged(&NEW_VIEW, 39, 1)? == Some(44)).note("a committed view, cut")
+    check(damaged(PREPARE, 3, 5)? == Some(0)).note("kind 5")?;
+    check(damaged(PREPARE, 31, 5)? == Some(28)).note("a tag of 5 bytes")?;
+    check(damaged(PREPARE, 31, 3)? == Some(28)).note("filled with a 4")?;
+    check(damaged(PREPARE, 31, 0)? == Some(32)).note("left over")?;
+    check(damaged(COMMIT, 35, 17)? == Some(32)).note("a count of 17")?;
+    check(damaged(COMMIT, 35, 16)? == Some(48)).note("a count of 16, cut")?;
+    check(damaged(COMMIT, 45, 1)? == Some(40)).note("filled with a 1")?;
+    check(damaged(NEW_VIEW, 19, 2)? == Some(16)).note("a bool of 2")?;
+    check(damaged(NEW_VIEW, 39, 1)? == Some(44)).note("a committed view, cut")
 }

@@ -15,8 +15,39 @@ use wire::Statement;
 
 // The prepare of (7, 600000, 30000000), round 9, view 1, site 1.
 const PREPARE: [u8; 28] = [
-    0, 0, 0, 2, 0, 0, 0, 9, 0, 0, 0, 1, 0, 0, 0, 1, 0, 0, 0, 7, 0x00, 0x09, 0x27, 0xc0, 0x01, 0xc9, 0xc3, 0x80,
+    0,
+    0,
+    0,
+    2,
+    0,
+    0,
+    0,
+    9,
+    0,
+    0,
+    0,
+    1,
+    0,
+    0,
+    0,
+    1,
+    0,
+    0,
+    0,
+    7,
+    0x00,
+    0x09,
+    0x27,
+    0xc0,
+    0x01,
+    0xc9,
+    0xc3,
+    0x80,
 ];
+
+fn same(a: &[u8], b: &[u8]) -> bool {
+    a == b
+}
 
 fn limit() -> Result<TagLimit, Fail> {
     match TagLimit::new(4) {
@@ -26,19 +57,30 @@ fn limit() -> Result<TagLimit, Fail> {
 }
 
 fn prepare() -> Statement {
-    let value = Fix { track: 7, longitude: 600000, latitude: 30000000 }.words();
-    Statement::Prepare(Claim { head: Head { round: 9, view: 1, site: 1 }, value })
+    let value = Fix {
+        track: 7,
+        longitude: 600000,
+        latitude: 30000000,
+    }.words();
+    Statement::Prepare(Claim {
+        head: Head {
+            round: 9,
+            view: 1,
+            site: 1,
+        },
+        value,
+    })
 }
 
 #[test]
 fn prepare_is_drafted() -> Result<(), Fail> {
     let mut out = [9u8; 32];
     check(draft(prepare(), &[], &mut out) == Ok(28))?;
-    check(out[0..28] == PREPARE)?;
-    check(out[28..32] == [9u8, 9, 9, 9]).note("what lies behind stays")?;
+    check(same(&out[0..28], &PREPARE))?;
+    check(same(&out[28..32], &[9, 9, 9, 9])).note("what lies behind stays")?;
     let mut small = [9u8; 27];
     check(draft(prepare(), &[], &mut small) == Err(Refusal::Short))?;
-    check(small == [9u8; 27]).note("a refusal changes nothing")
+    check(same(&small, &[9; 27])).note("a refusal changes nothing")
 }
 
 #[test]
@@ -46,24 +88,29 @@ fn prepare_is_sealed() -> Result<(), Fail> {
     let limit = limit()?;
     let mut out = [9u8; 40];
     check(seal(&PREPARE, &[5, 6, 7], limit, &mut out) == Ok(36))?;
-    check(out[0..28] == PREPARE)?;
-    check(out[28..40] == [0u8, 0, 0, 3, 5, 6, 7, 0, 9, 9, 9, 9])?;
+    check(same(&out[0..28], &PREPARE))?;
+    check(same(&out[28..40], &[0, 0, 0, 3, 5, 6, 7, 0, 9, 9, 9, 9]))?;
     let Ok(message) = read(&out[0..36], limit) else {
         return Err(Fail::new("not read"));
     };
     let mut again = [0u8; 36];
     check(write(message, limit, &mut again) == Ok(36))?;
-    check(again == out[0..36])
+    check(same(&again, &out[0..36]))
 }
 
 // First the tag's length, then the room, then the layout.
 #[test]
 fn seals_are_refused_in_order() -> Result<(), Fail> {
     let limit = limit()?;
+    let mut small = [9u8; 35];
+    check(
+        seal(&PREPARE, &[1, 2, 3, 4, 5], limit, &mut small) == Err(Refusal::Layout { place: 0 }),
+    )?;
+    check(seal(&PREPARE, &[1, 2, 3, 4], limit, &mut small) == Err(Refusal::Short))?;
     let mut out = [9u8; 36];
-    check(seal(&[], &[1, 2, 3, 4, 5], limit, &mut out) == Err(Refusal::Layout { place: 0 }))?;
-    check(seal(&PREPARE, &[1, 2, 3, 4], limit, &mut out[0..35]) == Err(Refusal::Short))?;
-    check(seal(&PREPARE[0..24], &[1, 2, 3, 4], limit, &mut out) == Err(Refusal::Layout { place: 24 }))?;
-    check(out == [9u8; 36]).note("refusals change nothing")?;
+    check(
+        seal(&PREPARE[0..24], &[1, 2, 3, 4], limit, &mut out) == Err(Refusal::Layout { place: 24 }),
+    )?;
+    check(same(&out, &[9; 36])).note("refusals change nothing")?;
     check(seal(&PREPARE, &[1, 2, 3, 4], limit, &mut out) == Ok(36))
 }
