@@ -81,7 +81,6 @@ zeros-replicate zero = refl
 zeros-replicate (suc n) = zeros-replicate n
 
 pub tag-back : (limit : ℕ) (b : List ℕ) (at : ℕ) (t : List ℕ) → limit < 2 ^ 32 → length t ≤ limit → Held b at (tagBytes t) → tagAt limit b at ≡ Ok (t, at + length (tagBytes t))
-unfolding tagAt
 tag-back limit b at t small fits h =
     let n = length t in
     let word = wordBytes n in

@@ -20,7 +20,7 @@ use Rattle.wire.specs.declared.statement.Claim.{Claim}
 use Rattle.wire.specs.declared.statement.ViewChange.{ViewChange}
 use Rattle.wire.specs.Words.{bind, fault, wordAt, wordBytes}
 use Rattle.wire.specs.Contents.{valueBytes, headBytes, reportBytes, claimBytes, changeBytes, padded, tagBytes, Vote, voteBytes, votesBytes, certificateBytes, Certified, reported, certifiedBytes, Turn, changeOf, turnBytes, turnsBytes, progressBytes}
-use Rattle.wire.specs.Layout.{valueAt, headAt, reportBy, reportAt, claimAt, changeAt, zeros, tagBy, tagAt, manyAt, voteAt, votesAt, certifiedAt, kindAt, envelopeAt, turnAt, progressAt, ending, wholly}
+use Rattle.wire.specs.Layout.{valueAt, headAt, reportBy, reportAt, claimAt, changeAt, zeros, tagBy, tagAt, countAt, manyAt, voteAt, votesAt, certifiedAt, kindAt, envelopeAt, turnAt, progressAt, ending, wholly}
 use Rattle.wire.proofs.Results.{bind-ok, cond-ok, ok-same}
 use Rattle.wire.proofs.Lengths.{tag-read}
 use Rattle.packets.specs.Fits.{ValueFits, HeadFits, ReportFits, ClaimFits, ChangeFits, VotesFit, CertificateFits, CertifiedFits, TurnFits, TurnsFit, Bytes}
@@ -153,7 +153,6 @@ cut : (b : List ℕ) (at n : ℕ) → at + n ≤ length b → Stands b at (take 
 cut b at n l = record { is = sym (take-append-drop n (drop at b)) ∙ ap (λ z. take n (drop at b) ++ z) (drop-drop n at b); within = l }
 
 pub tag-only : (limit : ℕ) (b : List ℕ) (at : ℕ) (p : List ℕ × ℕ) → Bytes b → tagAt limit b at ≡ Ok p → Stands b at (tagBytes (p .0)) (p .1)
-unfolding tagAt
 tag-only limit b at p bytes h =
     let w = bind-ok (wordAt b at) (tagBy limit b at) p h in
     let n = w .0 in
@@ -185,15 +184,21 @@ votes-only limit b (suc n) at p bytes l h =
     let y = votes-only limit b n (q .0 .1) (r .0) bytes (x .0 .within) (r .1) in
     rw (sym (ok-same (r .2))) (joins (x .0) (y .0), (x .1, x .2, y .1), ap suc (y .2))
 
+count-only : (b : List ℕ) (at n : ℕ) → Bytes b → countAt b at ≡ Ok n → Stands b at (wordBytes n) (at + 4) × (n ≤ 16)
+count-only b at n bytes h =
+    let q = bind-ok (wordAt b at) _ n h in
+    let r = cond-ok (leb (q .0) 16) (Ok (q .0)) at n (q .2) in
+    let e = ok-same (r .1) in
+    rw (sym e) (word-only b at (q .0) bytes (q .1) .is, leb-true (q .0) 16 (r .0))
+
 pub certificate-only : (limit : ℕ) (b : List ℕ) (at : ℕ) (p : List Vote × ℕ) → Bytes b → votesAt limit b at ≡ Ok p → Stands b at (certificateBytes (p .0)) (p .1) × CertificateFits limit (p .0)
 unfolding votesAt
 certificate-only limit b at p bytes h =
-    let q = bind-ok (wordAt b at) _ p h in
-    let r = cond-ok (leb (q .0) 16) _ at p (q .2) in
-    let x = word-only b at (q .0) bytes (q .1) in
-    let y = votes-only limit b (q .0) (at + 4) p bytes (x .is .within) (r .1) in
-    let few = leb-true (q .0) 16 (r .0) in
-    (rw (y .2) (joins (x .is) (y .0)), ((let k = y .2 in omega arith), y .1))
+    let q = bind-ok (countAt b at) _ p h in
+    let x = count-only b at (q .0) bytes (q .1) in
+    let y = votes-only limit b (q .0) (at + 4) p bytes (x .0 .within) (q .2) in
+    let few = x .1 in
+    (rw (y .2) (joins (x .0) (y .0)), ((let k = y .2 in omega arith), y .1))
 
 pub certified-only : (limit : ℕ) (b : List ℕ) (o : Option Report) (at : ℕ) (p : Option Certified × ℕ) → Bytes b → at ≤ length b → certifiedAt limit b o at ≡ Ok p
     → Stands b at (certifiedBytes (p .0)) (p .1) × CertifiedFits limit (p .0) × (reported (p .0) ≡ o)
@@ -262,12 +267,11 @@ turns-only limit b (suc n) at p bytes l h =
 pub progress-only : (limit : ℕ) (b : List ℕ) (at : ℕ) (p : List Turn × ℕ) → Bytes b → progressAt limit b at ≡ Ok p → Stands b at (progressBytes (p .0)) (p .1) × (length (p .0) ≤ 16) × TurnsFit limit (p .0)
 unfolding progressAt
 progress-only limit b at p bytes h =
-    let q = bind-ok (wordAt b at) _ p h in
-    let r = cond-ok (leb (q .0) 16) _ at p (q .2) in
-    let x = word-only b at (q .0) bytes (q .1) in
-    let y = turns-only limit b (q .0) (at + 4) p bytes (x .is .within) (r .1) in
-    let few = leb-true (q .0) 16 (r .0) in
-    (rw (y .2) (joins (x .is) (y .0)), (let k = y .2 in omega arith), y .1)
+    let q = bind-ok (countAt b at) _ p h in
+    let x = count-only b at (q .0) bytes (q .1) in
+    let y = turns-only limit b (q .0) (at + 4) p bytes (x .0 .within) (q .2) in
+    let few = x .1 in
+    (rw (y .2) (joins (x .0) (y .0)), (let k = y .2 in omega arith), y .1)
 
 pub wholly-ok : {A : Type 0} (b : List ℕ) (r : Result (A × ℕ) Malformed) (m : A) → wholly b r ≡ Ok m → (p : A × ℕ) × (r ≡ Ok p) × (p .1 ≡ length b) × (p .0 ≡ m)
 wholly-ok b r m h =

@@ -29,7 +29,6 @@ pub record TagRead (limit : ℕ) (b : List ℕ) (at : ℕ) (p : List ℕ × ℕ)
   pub short : length (p .0) ≤ limit
 
 pub tag-read : (limit : ℕ) (b : List ℕ) (at : ℕ) (p : List ℕ × ℕ) → tagAt limit b at ≡ Ok p → TagRead limit b at p
-unfolding tagAt
 tag-read limit b at p h =
     let w = bind-ok (wordAt b at) (tagBy limit b at) p h in
     let n = w .0 in

@@ -1,14 +1,12 @@
 -- Things that stand one behind the other.
 use mathlib.Core.Path.{_≡_, refl, sym, _∙_}
-use mathlib.Core.Bool.{Bool, true, false, cond}
 use mathlib.Core.List.{List, _∷_}
 use Prim.Native.Nat.{ℕ, zero, suc, _+_}
-use lib.Dec.{leb}
 use Rattle.std.specs.declared.result.Result.{Result}
 use Rattle.std.specs.declared.result.Result.the-variants.{Ok, Err}
 use Rattle.wire.specs.declared.words.Malformed.{Malformed}
-use Rattle.wire.specs.Words.{bind, fault, wordAt}
-use Rattle.wire.specs.Layout.{manyAt, countedAt}
+use Rattle.wire.specs.Words.{bind}
+use Rattle.wire.specs.Layout.{manyAt, countAt, countedAt}
 use Rattle.wire.specs.Places.{behind, manyEnd, countedEnd}
 
 -- one turn of a loop over them
@@ -34,14 +32,9 @@ module _ {A : Type 0} (one : ℕ → Result (A × ℕ) Malformed) where
   many-behind zero at = refl
   many-behind (suc n) at = step n (one at) (λ k. many-behind n k)
 
-  tested : (t : Bool) (n at : ℕ) → cond t (manyEnd (λ k. behind (one k)) n (at + 4)) (fault at) ≡ behind (cond t (manyAt one n (at + 4)) (fault at))
-  tested true n at = many-behind n (at + 4)
-  tested false n at = refl
-
-  counted : (r : Result ℕ Malformed) (at : ℕ)
-      → bind r (λ n. cond (leb n 16) (manyEnd (λ k. behind (one k)) n (at + 4)) (fault at)) ≡ behind (bind r (λ n. cond (leb n 16) (manyAt one n (at + 4)) (fault at)))
-  counted (Ok n) at = tested (leb n 16) n at
+  counted : (r : Result ℕ Malformed) (at : ℕ) → bind r (λ n. manyEnd (λ k. behind (one k)) n (at + 4)) ≡ behind (bind r (λ n. manyAt one n (at + 4)))
+  counted (Ok n) at = many-behind n (at + 4)
   counted (Err e) at = refl
 
   pub counted-behind : (b : List ℕ) (at : ℕ) → countedEnd (λ k. behind (one k)) b at ≡ behind (countedAt one b at)
-  counted-behind b at = counted (wordAt b at) at
+  counted-behind b at = counted (countAt b at) at

@@ -71,7 +71,7 @@ tagBy limit b at n =
     (Ok (take n (drop (at + 4) b), at + 4 + padded n))
     (fault at)
 
-unfoldable pub tagAt : ℕ → List ℕ → ℕ → Result (List ℕ × ℕ) Malformed
+abbrev pub tagAt : ℕ → List ℕ → ℕ → Result (List ℕ × ℕ) Malformed
 tagAt limit b at = bind (wordAt b at) (tagBy limit b at)
 
 -- so many things one after another, each with the place behind it
@@ -82,9 +82,13 @@ manyAt one (suc n) at =
     bind (manyAt one n (p .1)) (λ q.
     Ok (p .0 ∷ q .0, q .1)))
 
--- a count word up to 16, and so many things
+-- a count word: up to 16
+abbrev pub countAt : List ℕ → ℕ → Result ℕ Malformed
+countAt b at = bind (wordAt b at) (λ n. cond (leb n 16) (Ok n) (fault at))
+
+-- a count word, and so many things
 abbrev pub countedAt : {A : Type 0} → (ℕ → Result (A × ℕ) Malformed) → List ℕ → ℕ → Result (List A × ℕ) Malformed
-countedAt one b at = bind (wordAt b at) (λ n. cond (leb n 16) (manyAt one n (at + 4)) (fault at))
+countedAt one b at = bind (countAt b at) (λ n. manyAt one n (at + 4))
 
 abbrev pub voteAt : ℕ → List ℕ → ℕ → Result (Vote × ℕ) Malformed
 voteAt limit b at =

@@ -1,16 +1,15 @@
 -- Readings by their places.
 use mathlib.Core.List.{List}
-use mathlib.Core.Bool.{cond}
 use Prim.Native.Nat.{ℕ, zero, suc, _+_, _≤_}
-use lib.Dec.{leb}
 use lib.ListN.{length}
 use Rattle.std.specs.declared.result.Result.{Result}
 use Rattle.std.specs.declared.result.Result.the-variants.{Ok, Err}
 use Rattle.wire.specs.declared.words.Malformed.{Malformed}
 use Rattle.wire.specs.declared.tag.Part.{Part}
 use Rattle.wire.specs.declared.certificate.Entry.{Entry}
-use Rattle.wire.specs.Words.{bind, fault, wordAt}
+use Rattle.wire.specs.Words.{bind}
 use Rattle.wire.specs.Contents.{Vote}
+use Rattle.wire.specs.Layout.{countAt}
 
 -- a place behind at, within b
 abbrev pub Inside : ℕ → ℕ → List ℕ → Type 0
@@ -21,13 +20,14 @@ abbrev pub behind : {A : Type 0} → Result (A × ℕ) Malformed → Result ℕ 
 behind (Ok p) = Ok (p .1)
 behind (Err e) = Err e
 
--- the place behind a count word up to 16 and so many things
+-- the place behind so many things
 abbrev pub manyEnd : (ℕ → Result ℕ Malformed) → ℕ → ℕ → Result ℕ Malformed
 manyEnd one zero at = Ok at
 manyEnd one (suc n) at = bind (one at) (manyEnd one n)
 
+-- the place behind a count word and so many things
 abbrev pub countedEnd : (ℕ → Result ℕ Malformed) → List ℕ → ℕ → Result ℕ Malformed
-countedEnd one b at = bind (wordAt b at) (λ n. cond (leb n 16) (manyEnd one n (at + 4)) (fault at))
+countedEnd one b at = bind (countAt b at) (λ n. manyEnd one n (at + 4))
 
 -- a tag as it is read: its bytes, and the place behind
 abbrev pub tagRead : Result (Part × ℕ) Malformed → Result (List ℕ × ℕ) Malformed

@@ -6,7 +6,7 @@ ghost use lib.ListN.{length};
 ghost use Rattle.std.specs.declared.result.Result.{Result};
 ghost use Rattle.std.specs.Vec.{made};
 ghost use Rattle.wire.specs.declared.words.Malformed.{Malformed};
-ghost use Rattle.wire.specs.Layout.{voteAt, votesAt};
+ghost use Rattle.wire.specs.Layout.{countAt, voteAt, votesAt};
 ghost use Rattle.wire.specs.Places.{Inside, behind, countedEnd, entryRead};
 use super::tag::Part;
 use super::tag::tag_at;
@@ -32,6 +32,18 @@ pub fn entry_at(packet: &[u8], at: usize, limit: TagLimit) -> Result<(Entry<'_>,
     Ok((Entry { site, tag }, end))
 }
 
+// The count at a place: at most 16.
+pub fn count_at(packet: &[u8], at: usize) -> Result<u32, Malformed>
+    ensures value { λ r. ⌜ r ≡ countAt (now (packet .entry)) at ⌝ }
+    ensures within { λ r. ⌜ made r (λ _. at + 4 ≤ length (now (packet .entry))) ⌝ }
+{
+    let count = word_at(packet, at)?;
+    if count > 16 {
+        return Err(Malformed { place: at });
+    }
+    Ok(count)
+}
+
 // What a count word counts.
 pub trait Counted {
     ghost ends: { ℕ → List ℕ → ℕ → Result ℕ Malformed };
@@ -51,10 +63,7 @@ pub fn counted_end<C: Counted>(
     ensures value { λ r. ⌜ r ≡ countedEnd (C·Counted .ends (limit .bytes) (now (packet .entry))) (now (packet .entry)) at ⌝ }
     ensures within { λ r. ⌜ made r (λ e. Inside at e (now (packet .entry))) ⌝ }
 {
-    let count = word_at(packet, at)?;
-    if count > 16 {
-        return Err(Malformed { place: at });
-    }
+    let count = count_at(packet, at)?;
     let mut next = at + 4;
     for _i in 0..count {
         next = C::end(packet, next, limit)?;

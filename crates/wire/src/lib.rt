@@ -9,6 +9,7 @@ pub use certificate::Entries;
 pub use certificate::EntriesCounted;
 pub use certificate::Entry;
 pub use certificate::certificate_end;
+pub use certificate::count_at;
 pub use certificate::counted_end;
 pub use certificate::entry_at;
 pub use statement::Claim;
