@@ -14,36 +14,8 @@ use wire::Head;
 use wire::Statement;
 
 // The prepare of (7, 600000, 30000000), round 9, view 1, site 1.
-const PREPARE: [u8; 28] = [
-    0,
-    0,
-    0,
-    2,
-    0,
-    0,
-    0,
-    9,
-    0,
-    0,
-    0,
-    1,
-    0,
-    0,
-    0,
-    1,
-    0,
-    0,
-    0,
-    7,
-    0x00,
-    0x09,
-    0x27,
-    0xc0,
-    0x01,
-    0xc9,
-    0xc3,
-    0x80,
-];
+const PREPARE: [u8; 28] =
+    *b"\x00\x00\x00\x02\x00\x00\x00\x09\x00\x00\x00\x01\x00\x00\x00\x01\x00\x00\x00\x07\x00\x09\x27\xc0\x01\xc9\xc3\x80";
 
 fn same(a: &[u8], b: &[u8]) -> bool {
     a == b

@@ -24,13 +24,16 @@ use Rattle.values.specs.Refusals.{Refused, short, layout}
 use Rattle.wire.specs.declared.words.Malformed.{Malformed}
 use Rattle.wire.specs.declared.statement.Claim.{Claim}
 use Rattle.wire.specs.declared.statement.Statement.{Statement}
-use Rattle.wire.specs.Contents.{kindOf, statementBytes, reportBytes, tagBytes, certificateBytes, certifiedBytes, reported, changeOf, turnBytes, progressBytes, Content, propose, prepare, commit, new-view, statementOf, tagOf, attachmentBytes, messageBytes, draftBytes, withTag}
+use Rattle.wire.specs.declared.statement.Statement.the-variants.{Propose, Prepare, Commit, NewView}
+use Rattle.wire.specs.Words.{wordAt, wordBytes}
+use Rattle.wire.specs.Contents.{kindOf, bodyBytes, statementBytes, reportBytes, tagBytes, certificateBytes, certifiedBytes, reported, changeOf, turnBytes, progressBytes, Content, propose, prepare, commit, new-view, statementOf, tagOf, attachmentBytes, messageBytes, draftBytes, withTag}
 use Rattle.wire.specs.Layout.{messageOf, draftEnd}
 use Rattle.messages.specs.Parts.{Pieces, mapOk, locate, shortestOf}
 use Rattle.wire.proofs.Lengths.{length-tag}
 use Rattle.writing.specs.Written.{refusing, sealedBytes, sealingBy, sealing}
 use Rattle.packets.specs.Fits.{ValueFits, ContentFits, Bytes}
-use Rattle.packets.specs.Laws.{faulted, readingOf, partsOf, Written-reads-back, One-byte-string, Parts-are-the-packet, Statements-told-apart, Sealed-reads-back, Drafts-are-sealed, Shortest, Fixes-are-words}
+use Rattle.packets.specs.Laws.{faulted, readingOf, partsOf, Written-reads-back, One-byte-string, Parts-are-the-packet, Kind-is-the-first-word, Statements-told-apart, Sealed-reads-back, Drafts-are-sealed, Shortest, Fixes-are-words}
+use Rattle.packets.proofs.Held.{front, whole, word-back}
 use Rattle.packets.proofs.Back.{message-back, draft-back, told-apart}
 use Rattle.packets.proofs.Whole.{message-only, draft-only}
 
@@ -68,6 +71,28 @@ pub parts-are-the-packet : Parts-are-the-packet
 parts-are-the-packet limit b p bytes h =
     let l = located b (messageOf limit b) p h in
     subst (λ (q : Pieces Statement). statementBytes (q .statement) ++ (tagBytes (q .tag .bytes) ++ q .attachment .bytes) ≡ b) (l .2) (again b (l .0) (message-only limit b bytes (l .0) (l .1) .0))
+
+kind-small : (s : Statement) → kindOf s < 2 ^ 32
+kind-small (Propose c) = omega arith
+kind-small (Prepare c) = omega arith
+kind-small (Commit c) = omega arith
+kind-small (NewView c) = omega arith
+
+first-word : (b : List ℕ) (m : Content) → b ≡ messageBytes m → wordAt b 0 ≡ Ok (kindOf (statementOf m))
+first-word b m e =
+    let k = kindOf (statementOf m) in
+    let rest = bodyBytes (statementOf m) ++ (tagBytes (tagOf m) ++ attachmentBytes m) in
+    ap (λ (z : List ℕ). wordAt z 0) e ∙ word-back (messageBytes m) 0 k (kind-small (statementOf m)) (front (wordBytes k) rest (whole (messageBytes m)))
+
+kept : (b : List ℕ) (m : Content) → locate b m .statement ≡ statementOf m
+unfolding locate
+kept b m = refl
+
+pub kind-is-the-first-word : Kind-is-the-first-word
+kind-is-the-first-word limit b p bytes h =
+    let l = located b (messageOf limit b) p h in
+    let m = l .0 in
+    first-word b m (message-only limit b bytes m (l .1) .0) ∙ ap (λ (s : Statement). Ok (kindOf s)) (sym (kept b m) ∙ ap (λ (q : Pieces Statement). q .statement) (l .2))
 
 pub statements-told-apart : Statements-told-apart
 statements-told-apart = told-apart

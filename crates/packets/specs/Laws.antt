@@ -16,6 +16,7 @@ use Rattle.values.specs.Refusals.{Refused, layout}
 use Rattle.wire.specs.declared.words.Malformed.{Malformed}
 use Rattle.wire.specs.declared.statement.Head.{Head}
 use Rattle.wire.specs.declared.statement.Statement.{Statement}
+use Rattle.wire.specs.Words.{wordAt}
 use Rattle.wire.specs.Contents.{kindOf, statementBytes, tagBytes, Turn, Content, propose, prepare, commit, new-view, statementOf, tagOf, attachmentBytes, messageBytes, draftBytes, withTag}
 use Rattle.wire.specs.Layout.{messageOf}
 use Rattle.messages.specs.Parts.{Pieces, mapOk, locate, shortestOf}
@@ -58,6 +59,11 @@ One-byte-string = (limit : ℕ) (b : List ℕ) (m : Content) → Bytes b → mes
 abbrev pub Parts-are-the-packet : Type 0
 Parts-are-the-packet = (limit : ℕ) (b : List ℕ) (p : Pieces Statement) → Bytes b → readingOf limit b ≡ Ok p
     → statementBytes (p .statement) ++ (tagBytes (p .tag .bytes) ++ p .attachment .bytes) ≡ b
+
+-- the number of the kind that is read is the packet's first word
+abbrev pub Kind-is-the-first-word : Type 0
+Kind-is-the-first-word = (limit : ℕ) (b : List ℕ) (p : Pieces Statement) → Bytes b → readingOf limit b ≡ Ok p
+    → wordAt b 0 ≡ Ok (kindOf (p .statement))
 
 -- two different statements never have the same bytes
 abbrev pub Statements-told-apart : Type 0
