@@ -21,8 +21,8 @@ use Rattle.wire.specs.declared.statement.ViewChange.{ViewChange}
 use Rattle.wire.specs.declared.statement.Statement.{Statement}
 use Rattle.wire.specs.declared.statement.Statement.the-variants.{Propose, Prepare, Commit, NewView}
 use Rattle.wire.specs.Words.{bind, wordAt, wordBytes}
-use Rattle.wire.specs.Contents.{valueBytes, headBytes, reportBytes, claimBytes, changeBytes, padded, tagBytes, Vote, voteBytes, votesBytes, certificateBytes, Certified, reported, certifiedBytes, Turn, changeOf, turnBytes, turnsBytes, progressBytes, Content, propose, prepare, commit, new-view, statementBytes, statementOf, messageBytes, draftBytes}
-use Rattle.wire.specs.Layout.{valueAt, headAt, reportAt, claimAt, changeAt, zeros, tagAt, manyAt, voteAt, votesAt, certifiedAt, envelopeAt, turnAt, progressAt, nothingAt, proposeOf, prepareOf, commitOf, newViewOf, messageOf, wholly, draftBy, draftEnd}
+use Rattle.wire.specs.Contents.{threeBytes, valueBytes, headBytes, reportBytes, claimBytes, changeBytes, padded, tagBytes, Vote, voteBytes, votesBytes, certificateBytes, Certified, reported, certifiedBytes, Turn, changeOf, turnBytes, turnsBytes, progressBytes, Content, propose, prepare, commit, new-view, statementBytes, statementOf, messageBytes, draftBytes}
+use Rattle.wire.specs.Layout.{threeAt, valueAt, headAt, reportAt, claimAt, changeAt, zeros, tagAt, manyAt, voteAt, votesAt, certifiedAt, envelopeAt, turnAt, progressAt, nothingAt, proposeOf, prepareOf, commitOf, newViewOf, messageOf, wholly, draftBy, draftEnd}
 use Rattle.wire.proofs.Results.{ok-same}
 use Rattle.wire.proofs.Lengths.{length-tag}
 use Rattle.messages.proofs.Envelopes.{envelope-on}
@@ -31,23 +31,18 @@ use Rattle.packets.proofs.Held.{Held, front, next, whole, word-back}
 
 -- ---- statements ----
 
+three-back : {A : Type 0} (make : ℕ → ℕ → ℕ → A) (b : List ℕ) (at x y z : ℕ) → x < 2 ^ 32 → y < 2 ^ 32 → z < 2 ^ 32 → Held b at (threeBytes x y z) → threeAt make b at ≡ Ok (make x y z)
+three-back make b at x y z f g k h =
+    let v = wordBytes y ++ wordBytes z in
+    let h4 : Held b (at + 4) v = next 4 (wordBytes x) v refl h in
+    let h8 : Held b (at + 8) (wordBytes z) = next 8 (wordBytes x ++ wordBytes y) (wordBytes z) refl h in
+    rw (word-back b at x f (front (wordBytes x) v h), word-back b (at + 4) y g (front (wordBytes y) (wordBytes z) h4), word-back b (at + 8) z k h8)
+
 pub value-back : (b : List ℕ) (at : ℕ) (d : Value) → ValueFits d → Held b at (valueBytes d) → valueAt b at ≡ Ok d
-value-back b at d fits h =
-    let x = wordBytes (d .first) in
-    let y = wordBytes (d .second) in
-    let z = wordBytes (d .third) in
-    let h4 : Held b (at + 4) (y ++ z) = next 4 x (y ++ z) refl h in
-    let h8 : Held b (at + 8) z = next 8 (x ++ y) z refl h in
-    rw (word-back b at (d .first) (fits .first) (front x (y ++ z) h), word-back b (at + 4) (d .second) (fits .second) (front y z h4), word-back b (at + 8) (d .third) (fits .third) h8)
+value-back b at d fits h = three-back (λ x y z. record { first = x; second = y; third = z }) b at (d .first) (d .second) (d .third) (fits .first) (fits .second) (fits .third) h
 
 pub head-back : (b : List ℕ) (at : ℕ) (d : Head) → HeadFits d → Held b at (headBytes d) → headAt b at ≡ Ok d
-head-back b at d fits h =
-    let x = wordBytes (d .round) in
-    let y = wordBytes (d .view) in
-    let z = wordBytes (d .site) in
-    let h4 : Held b (at + 4) (y ++ z) = next 4 x (y ++ z) refl h in
-    let h8 : Held b (at + 8) z = next 8 (x ++ y) z refl h in
-    rw (word-back b at (d .round) (fits .round) (front x (y ++ z) h), word-back b (at + 4) (d .view) (fits .view) (front y z h4), word-back b (at + 8) (d .site) (fits .site) h8)
+head-back b at d fits h = three-back (λ x y z. record { round = x; view = y; site = z }) b at (d .round) (d .view) (d .site) (fits .round) (fits .view) (fits .site) h
 
 pub report-back : (b : List ℕ) (at : ℕ) (o : Option Report) → ReportFits o → Held b at (reportBytes o) → reportAt b at ≡ Ok (o, at + length (reportBytes o))
 report-back b at None fits h = rw (word-back b at 0 (omega arith) h)

@@ -19,8 +19,8 @@ use Rattle.wire.specs.declared.statement.Head.{Head}
 use Rattle.wire.specs.declared.statement.Claim.{Claim}
 use Rattle.wire.specs.declared.statement.ViewChange.{ViewChange}
 use Rattle.wire.specs.Words.{bind, fault, wordAt, wordBytes}
-use Rattle.wire.specs.Contents.{valueBytes, headBytes, reportBytes, claimBytes, changeBytes, padded, tagBytes, Vote, voteBytes, votesBytes, certificateBytes, Certified, reported, certifiedBytes, Turn, changeOf, turnBytes, turnsBytes, progressBytes}
-use Rattle.wire.specs.Layout.{valueAt, headAt, reportBy, reportAt, claimAt, changeAt, zeros, tagBy, tagAt, countAt, manyAt, voteAt, votesAt, certifiedAt, kindAt, envelopeAt, turnAt, progressAt, ending, wholly}
+use Rattle.wire.specs.Contents.{threeBytes, valueBytes, headBytes, reportBytes, claimBytes, changeBytes, padded, tagBytes, Vote, voteBytes, votesBytes, certificateBytes, Certified, reported, certifiedBytes, Turn, changeOf, turnBytes, turnsBytes, progressBytes}
+use Rattle.wire.specs.Layout.{threeAt, valueAt, headAt, reportBy, reportAt, claimAt, changeAt, zeros, tagBy, tagAt, countAt, manyAt, voteAt, votesAt, certifiedAt, kindAt, envelopeAt, turnAt, progressAt, ending, wholly}
 use Rattle.wire.proofs.Results.{bind-ok, cond-ok, ok-same}
 use Rattle.wire.proofs.Lengths.{tag-read}
 use Rattle.packets.specs.Fits.{ValueFits, HeadFits, ReportFits, ClaimFits, ChangeFits, VotesFit, CertificateFits, CertifiedFits, TurnFits, TurnsFit, Bytes}
@@ -83,27 +83,45 @@ word-only b at w bytes e =
     let q3 : w % 256 ≡ getD b (at + 3) 0 = ap (λ n. n % 256) (sym is) ∙ digit3 _ _ _ _ b0 b1 b2 b3 in
     record { is = record { is = rw (q0, q1, q2, q3, ← d3, ← d2, ← d1, ← d0); within = long }; small = omega arith }
 
-three : (b : List ℕ) (at x y z : ℕ) → Bytes b → wordAt b at ≡ Ok x → wordAt b (at + 4) ≡ Ok y → wordAt b (at + 8) ≡ Ok z → Stands b at (wordBytes x ++ (wordBytes y ++ wordBytes z)) (at + 12)
-three b at x y z bytes p q r =
+-- three words that were read, and what make makes of them
+record Three {A : Type 0} (make : ℕ → ℕ → ℕ → A) (b : List ℕ) (at : ℕ) (d : A) : Type 0 where
+  x : ℕ
+  y : ℕ
+  z : ℕ
+  is : make x y z ≡ d
+  stands : Stands b at (threeBytes x y z) (at + 12)
+  fits : (x < 2 ^ 32) × (y < 2 ^ 32) × (z < 2 ^ 32)
+
+three-only : {A : Type 0} (make : ℕ → ℕ → ℕ → A) (b : List ℕ) (at : ℕ) (d : A) → Bytes b → threeAt make b at ≡ Ok d → Three make b at d
+three-only make b at d bytes h =
+    let p = bind-ok (wordAt b at) _ d h in
+    let q = bind-ok (wordAt b (at + 4)) _ d (p .2) in
+    let r = bind-ok (wordAt b (at + 8)) _ d (q .2) in
+    let u = word-only b at (p .0) bytes (p .1) in
+    let v = word-only b (at + 4) (q .0) bytes (q .1) in
+    let w = word-only b (at + 8) (r .0) bytes (r .1) in
     let e : at + 4 + 4 ≡ at + 8 = omega arith in
     let e′ : at + 8 + 4 ≡ at + 12 = omega arith in
-    joins (word-only b at x bytes p .is) (joins (rw e at (word-only b (at + 4) y bytes q .is)) (rw e′ at (word-only b (at + 8) z bytes r .is)))
+    record {
+      x = p .0;
+      y = q .0;
+      z = r .0;
+      is = ok-same (r .2);
+      stands = joins (u .is) (joins (rw e at (v .is)) (rw e′ at (w .is)));
+      fits = (u .small, v .small, w .small);
+    }
 
 -- ---- statements ----
 
 value-only : (b : List ℕ) (at : ℕ) (d : Value) → Bytes b → valueAt b at ≡ Ok d → Stands b at (valueBytes d) (at + 12) × ValueFits d
 value-only b at d bytes h =
-    let p = bind-ok (wordAt b at) _ d h in
-    let q = bind-ok (wordAt b (at + 4)) _ d (p .2) in
-    let r = bind-ok (wordAt b (at + 8)) _ d (q .2) in
-    rw (sym (ok-same (r .2))) (three b at (p .0) (q .0) (r .0) bytes (p .1) (q .1) (r .1), record { first = word-only b at (p .0) bytes (p .1) .small; second = word-only b (at + 4) (q .0) bytes (q .1) .small; third = word-only b (at + 8) (r .0) bytes (r .1) .small })
+    let t = three-only (λ x y z. record { first = x; second = y; third = z }) b at d bytes h in
+    rw (sym (t .is)) (t .stands, record { first = t .fits .0; second = t .fits .1; third = t .fits .2 })
 
 head-only : (b : List ℕ) (at : ℕ) (d : Head) → Bytes b → headAt b at ≡ Ok d → Stands b at (headBytes d) (at + 12) × HeadFits d
 head-only b at d bytes h =
-    let p = bind-ok (wordAt b at) _ d h in
-    let q = bind-ok (wordAt b (at + 4)) _ d (p .2) in
-    let r = bind-ok (wordAt b (at + 8)) _ d (q .2) in
-    rw (sym (ok-same (r .2))) (three b at (p .0) (q .0) (r .0) bytes (p .1) (q .1) (r .1), record { round = word-only b at (p .0) bytes (p .1) .small; view = word-only b (at + 4) (q .0) bytes (q .1) .small; site = word-only b (at + 8) (r .0) bytes (r .1) .small })
+    let t = three-only (λ x y z. record { round = x; view = y; site = z }) b at d bytes h in
+    rw (sym (t .is)) (t .stands, record { round = t .fits .0; view = t .fits .1; site = t .fits .2 })
 
 report-only : (b : List ℕ) (at : ℕ) (p : Option Report × ℕ) → Bytes b → reportAt b at ≡ Ok p → Stands b at (reportBytes (p .0)) (p .1) × ReportFits (p .0)
 report-only b at p bytes h =

@@ -15,11 +15,14 @@ use Rattle.wire.specs.Words.{wordBytes}
 
 -- ---- statements ----
 
+abbrev pub threeBytes : ℕ → ℕ → ℕ → List ℕ
+threeBytes x y z = wordBytes x ++ (wordBytes y ++ wordBytes z)
+
 abbrev pub valueBytes : Value → List ℕ
-valueBytes v = wordBytes (v .first) ++ (wordBytes (v .second) ++ wordBytes (v .third))
+valueBytes v = threeBytes (v .first) (v .second) (v .third)
 
 abbrev pub headBytes : Head → List ℕ
-headBytes h = wordBytes (h .round) ++ (wordBytes (h .view) ++ wordBytes (h .site))
+headBytes h = threeBytes (h .round) (h .view) (h .site)
 
 -- a bool, and behind a 1 the view and the value
 abbrev pub reportBytes : Option Report → List ℕ

@@ -19,19 +19,18 @@ use Rattle.wire.specs.Contents.{padded, Vote, Certified, Turn, Content, propos
 
 -- ---- statements ----
 
-abbrev pub valueAt : List ℕ → ℕ → Result Value Malformed
-valueAt b at =
+abbrev pub threeAt : {A : Type 0} → (ℕ → ℕ → ℕ → A) → List ℕ → ℕ → Result A Malformed
+threeAt make b at =
     bind (wordAt b at) (λ x.
     bind (wordAt b (at + 4)) (λ y.
     bind (wordAt b (at + 8)) (λ z.
-    Ok (record { first = x; second = y; third = z }))))
+    Ok (make x y z))))
+
+abbrev pub valueAt : List ℕ → ℕ → Result Value Malformed
+valueAt = threeAt (λ x y z. record { first = x; second = y; third = z })
 
 abbrev pub headAt : List ℕ → ℕ → Result Head Malformed
-headAt b at =
-    bind (wordAt b at) (λ x.
-    bind (wordAt b (at + 4)) (λ y.
-    bind (wordAt b (at + 8)) (λ z.
-    Ok (record { round = x; view = y; site = z }))))
+headAt = threeAt (λ x y z. record { round = x; view = y; site = z })
 
 -- a bool, and the view and value that a 1 announces; with the place behind
 abbrev pub reportBy : List ℕ → ℕ → ℕ → Result (Option Report × ℕ) Malformed

@@ -4,7 +4,7 @@ ghost use mathlib.Core.List.{_++_};
 ghost use Prim.Native.Nat.{_+_, _^_, _<_, _≤_};
 ghost use lib.ListN.{length, replicate};
 ghost use Rattle.wire.specs.Words.{wordBytes};
-ghost use Rattle.wire.specs.Contents.{valueBytes, headBytes, reportBytes, claimBytes, changeBytes, statementBytes, tagBytes};
+ghost use Rattle.wire.specs.Contents.{threeBytes, valueBytes, headBytes, reportBytes, claimBytes, changeBytes, statementBytes, tagBytes};
 ghost use Rattle.writing.specs.Lays.{Lays};
 use messages::Commit;
 use messages::CommitKind;
@@ -50,14 +50,23 @@ pub fn put_word(out: &mut [u8], at: usize, word: u32) -> usize
     put(out, at, &word.to_be_bytes())
 }
 
+// Three words, one behind the other.
+fn put_three(out: &mut [u8], at: usize, first: u32, second: u32, third: u32) -> usize
+    requires { ⌜ at + 12 ≤ length (now out) ⌝ }
+    ensures next { λ r. ⌜ r ≡ at + 12 ⌝ }
+    ensures after { λ r. ⌜ Lays (now (out .entry)) at (threeBytes first second third) (now (out .exit)) r ⌝ }
+{
+    let next = put_word(out, at, first);
+    let next = put_word(out, next, second);
+    put_word(out, next, third)
+}
+
 fn put_value(out: &mut [u8], at: usize, value: Value) -> usize
     requires { ⌜ at + 12 ≤ length (now out) ⌝ }
     ensures next { λ r. ⌜ r ≡ at + 12 ⌝ }
     ensures after { λ r. ⌜ Lays (now (out .entry)) at (valueBytes value) (now (out .exit)) r ⌝ }
 {
-    let next = put_word(out, at, value.first);
-    let next = put_word(out, next, value.second);
-    put_word(out, next, value.third)
+    put_three(out, at, value.first, value.second, value.third)
 }
 
 fn put_head(out: &mut [u8], at: usize, head: Head) -> usize
@@ -65,9 +74,7 @@ fn put_head(out: &mut [u8], at: usize, head: Head) -> usize
     ensures next { λ r. ⌜ r ≡ at + 12 ⌝ }
     ensures after { λ r. ⌜ Lays (now (out .entry)) at (headBytes head) (now (out .exit)) r ⌝ }
 {
-    let next = put_word(out, at, head.round);
-    let next = put_word(out, next, head.view);
-    put_word(out, next, head.site)
+    put_three(out, at, head.round, head.view, head.site)
 }
 
 fn put_report(out: &mut [u8], at: usize, report: Option<Report>) -> usize

@@ -1,6 +1,6 @@
 use borrow.Author.Needs.{needs}
 use Rattle.writing.proofs.Laying.{then}
-use Rattle.writing.proofs.pieces.put_value.Needs as need
+use Rattle.writing.proofs.pieces.put_three.Needs as need
 
 pub returns : need.returns
 returns c =
