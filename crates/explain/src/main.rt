@@ -1,10 +1,10 @@
 // Explains packets: lines of hexadecimal text in, a few lines of plain words out for each.
-mod hex;
 mod show;
 
 use hex::BadText;
 use packets::seal;
 use show::Shown;
+use show::show_bytes;
 use show::show_packet;
 use show::show_refusal;
 use std::env;
@@ -76,7 +76,7 @@ fn show_sealed(rt: &LibcRuntime, out: &[u8], len: usize, limit: TagLimit) -> Res
     }
     let packet = &out[0..len];
     print!(rt, "  sealed: ")?;
-    hex::print(rt, packet)?;
+    show_bytes(rt, packet)?;
     print!(rt, "  ")?;
     show_packet(
         rt,

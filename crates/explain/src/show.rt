@@ -305,3 +305,15 @@ pub fn show_refusal(rt: &LibcRuntime, refusal: Refusal) -> Result<(), AnyError> 
     println!(rt, ": {meaning}")?;
     Ok(())
 }
+
+// Bytes as digits, four bytes to a group.
+pub fn show_bytes(rt: &LibcRuntime, bytes: &[u8]) -> Result<(), AnyError> {
+    for (at, b) in bytes.iter().enumerate() {
+        if at > 0 && at % 4 == 0 {
+            print!(rt, " ")?;
+        }
+        print!(rt, "{b:02x}")?;
+    }
+    println!(rt, "")?;
+    Ok(())
+}
