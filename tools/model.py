@@ -231,14 +231,14 @@ def packet_lines(data, limit, pad):
     yield from message_lines(data, said, pad)
 
 
-def decode(text):
-    """The bytes that a text spells, or what is bad about it."""
+def decode(text, start=0):
+    """The bytes that a text spells, or what is bad about it; it starts at a character of its line."""
     digits = ""
     for at, c in enumerate(text):
         if c in " \t\r":
             continue
         if c not in "0123456789abcdefABCDEF":
-            return None, "no hexadecimal digit at character %d" % at
+            return None, "no hexadecimal digit at character %d" % (start + at)
         digits += c
     if len(digits) % 2:
         return None, "half a byte is left over"
@@ -252,8 +252,8 @@ def line_lines(number, line, limit):
     start = "line %d: " % number
     parts = text.split("+", 1)
     data = []
-    for part in parts:
-        value, bad = decode(part)
+    for k, part in enumerate(parts):
+        value, bad = decode(part, k * (len(parts[0]) + 1))
         if bad:
             yield start + "bad line: " + bad
             return
@@ -329,6 +329,8 @@ def samples():
     yield "a tag longer than the limit speaks first", "0000 + 112233445566778899"
     yield "a draft of a commit without its certificate", grouped(claim(3, 9, 1, 2, D)) + " + 00000001"
     yield "a draft with a tag in it already", grouped(prepare) + " + 050607"
+    yield "no digit in a tag", grouped(claim(2, 9, 1, 1, D)) + " + 05x"
+    yield "not even text", "0002\udcff"
     yield "half a tag", grouped(claim(2, 9, 1, 1, D)) + " + 0"
 
 
@@ -384,10 +386,12 @@ def fuzz(seed, n):
 
 
 def main():
+    sys.stdout.reconfigure(encoding="utf-8", errors="surrogateescape")
     mode = sys.argv[1]
     if mode == "explain":
         limit = int(sys.argv[2]) if len(sys.argv) > 2 else 2048
-        for line in explain(sys.stdin, limit):
+        text = sys.stdin.buffer.read().decode("latin-1")
+        for line in explain(text.split("\n"), limit):
             print(line)
     elif mode == "samples":
         print("# Explained with tag limit 8. Made by tools/model.py samples, from docs/FORMATS.md.")

@@ -9,6 +9,8 @@ use show::show_packet;
 use show::show_refusal;
 use std::env;
 use std::error::AnyError;
+use std::io::BufRead;
+use std::io::BufReader;
 use values::TagLimit;
 
 // The longest tag, where no argument says otherwise.
@@ -18,7 +20,7 @@ const LONGEST: usize = 2048;
 fn tag_limit(rt: &LibcRuntime) -> Result<TagLimit, AnyError> {
     let mut bytes = LONGEST;
     for word in env::args(rt)?.skip(1).take(1) {
-        bytes = word.as_str().parse::<usize>()?;
+        bytes = word.as_str().parse::<usize>().unwrap_or(0);
     }
     match TagLimit::new(bytes) {
         Ok(limit) => Ok(limit),
@@ -26,9 +28,19 @@ fn tag_limit(rt: &LibcRuntime) -> Result<TagLimit, AnyError> {
     }
 }
 
+// What stands before a mark, and what stands behind it, if it is there.
+fn cut_at(text: &[u8], mark: u8) -> (&[u8], Option<&[u8]>) {
+    for (i, b) in text.iter().enumerate() {
+        if *b == mark {
+            return (&text[0..i], Some(&text[i + 1..text.len()]));
+        }
+    }
+    (text, None)
+}
+
 // A packet, and what it holds.
-fn explain_packet(rt: &LibcRuntime, text: &str, limit: TagLimit) -> Result<(), AnyError> {
-    match hex::decode(rt.alloc(), text.as_bytes()) {
+fn explain_packet(rt: &LibcRuntime, text: &[u8], limit: TagLimit) -> Result<(), AnyError> {
+    match hex::decode(rt.alloc(), text) {
         Ok(packet) => show_packet(
             rt,
             Shown {
@@ -37,25 +49,26 @@ fn explain_packet(rt: &LibcRuntime, text: &str, limit: TagLimit) -> Result<(), A
                 indent: "  ",
             },
         ),
-        Err(bad) => show_bad_text(rt, bad),
+        Err(bad) => show_bad_text(rt, bad, 0),
     }
 }
 
 // A draft and a tag: the message that sealing makes of them, read back.
 fn explain_draft(
     rt: &LibcRuntime,
-    draft: &str,
-    tag: &str,
+    draft: &[u8],
+    tag: &[u8],
     limit: TagLimit,
 ) -> Result<(), AnyError> {
     let heap = rt.alloc();
-    let draft = match hex::decode(heap, draft.as_bytes()) {
+    let behind = draft.len().saturating_add(1);
+    let draft = match hex::decode(heap, draft) {
         Ok(bytes) => bytes,
-        Err(bad) => return show_bad_text(rt, bad),
+        Err(bad) => return show_bad_text(rt, bad, 0),
     };
-    let tag = match hex::decode(heap, tag.as_bytes()) {
+    let tag = match hex::decode(heap, tag) {
         Ok(bytes) => bytes,
-        Err(bad) => return show_bad_text(rt, bad),
+        Err(bad) => return show_bad_text(rt, bad, behind),
     };
     let drafted = draft.len();
     let tagged = tag.len();
@@ -88,12 +101,13 @@ fn show_sealed(rt: &LibcRuntime, out: &[u8], len: usize, limit: TagLimit) -> Res
     )
 }
 
-fn show_bad_text(rt: &LibcRuntime, bad: BadText) -> Result<(), AnyError> {
+// Why a text is no hexadecimal text; it starts at a character of the line.
+fn show_bad_text(rt: &LibcRuntime, bad: BadText, start: usize) -> Result<(), AnyError> {
     match bad {
-        BadText::NoDigit { at } => println!(
-            rt,
-            "bad line: no hexadecimal digit at character {at}"
-        )?,
+        BadText::NoDigit { at } => {
+            let place = start.saturating_add(at);
+            println!(rt, "bad line: no hexadecimal digit at character {place}")?
+        }
         BadText::HalfByte => println!(rt, "bad line: half a byte is left over")?,
         BadText::NoMemory => println!(rt, "no memory for this line")?,
     }
@@ -104,29 +118,27 @@ fn show_bad_text(rt: &LibcRuntime, bad: BadText) -> Result<(), AnyError> {
 fn explain_line(
     rt: &LibcRuntime,
     number: u64,
-    line: &str,
+    line: &[u8],
     limit: TagLimit,
 ) -> Result<(), AnyError> {
-    let text = match line.split_once('#') {
-        Some((text, _)) => text,
-        None => line,
-    };
-    if hex::is_blank(text.as_bytes()) {
+    let (text, _) = cut_at(line, b'#');
+    if hex::is_blank(text) {
         return Ok(());
     }
     print!(rt, "line {number}: ")?;
-    match text.split_once('+') {
-        Some((draft, tag)) => explain_draft(rt, draft, tag, limit),
-        None => explain_packet(rt, text, limit),
+    match cut_at(text, b'+') {
+        (draft, Some(tag)) => explain_draft(rt, draft, tag, limit),
+        (packet, None) => explain_packet(rt, packet, limit),
     }
 }
 
 fn run(rt: &LibcRuntime) -> Result<(), AnyError> {
     let limit = tag_limit(rt)?;
+    let heap = rt.alloc();
     let mut number = 0u64;
-    for line in rt.lines(rt.alloc()) {
+    for line in BufReader::new(rt.stdin()).split(heap, b'\n') {
         number = number.saturating_add(1);
-        explain_line(rt, number, line?.as_str(), limit)?;
+        explain_line(rt, number, line?.as_slice(), limit)?;
     }
     Ok(())
 }

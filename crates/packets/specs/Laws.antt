@@ -55,10 +55,13 @@ abbrev pub One-byte-string : Type 0
 One-byte-string = (limit : ℕ) (b : List ℕ) (m : Content) → Bytes b → messageOf limit b ≡ Ok m
     → (b ≡ messageBytes m) × ContentFits limit m
 
+-- parts, written one behind the other
+abbrev pub joined : Pieces Statement → List ℕ
+joined p = statementBytes (p .statement) ++ (tagBytes (p .tag .bytes) ++ p .attachment .bytes)
+
 -- the parts that are read, written one behind the other, are the packet
 abbrev pub Parts-are-the-packet : Type 0
-Parts-are-the-packet = (limit : ℕ) (b : List ℕ) (p : Pieces Statement) → Bytes b → readingOf limit b ≡ Ok p
-    → statementBytes (p .statement) ++ (tagBytes (p .tag .bytes) ++ p .attachment .bytes) ≡ b
+Parts-are-the-packet = (limit : ℕ) (b : List ℕ) (p : Pieces Statement) → Bytes b → readingOf limit b ≡ Ok p → joined p ≡ b
 
 -- the number of the kind that is read is the packet's first word
 abbrev pub Kind-is-the-first-word : Type 0

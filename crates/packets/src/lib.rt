@@ -1,9 +1,10 @@
 // What the library offers for packets: reading, writing and sealing, with their laws.
 ghost use mathlib.Core.Path.{_≡_};
+ghost use Rattle.std.specs.Vec.{made};
 ghost use Rattle.values.specs.Refusals.{answered};
 ghost use Rattle.messages.specs.Parts.{told};
 ghost use Rattle.writing.specs.Written.{drafting, sending, sealing};
-ghost use Rattle.packets.specs.Laws.{readingOf, Written-reads-back, One-byte-string, Parts-are-the-packet, Kind-is-the-first-word, Statements-told-apart, Sealed-reads-back, Drafts-are-sealed, Shortest, Fixes-are-words};
+ghost use Rattle.packets.specs.Laws.{readingOf, joined, Written-reads-back, One-byte-string, Kind-is-the-first-word, Statements-told-apart, Sealed-reads-back, Drafts-are-sealed, Shortest, Fixes-are-words};
 use messages::Message;
 use messages::read_message;
 use values::Refusal;
@@ -16,7 +17,7 @@ use writing::write_message;
 pub fn read(packet: &[u8], limit: TagLimit) -> Result<Message<'_>, Refusal>
     ensures value { λ r. ⌜ answered told r ≡ readingOf (limit .bytes) (now (packet .entry)) ⌝ }
     ensures one_string { λ _. ⌜ One-byte-string ⌝ }
-    ensures parts { λ _. ⌜ Parts-are-the-packet ⌝ }
+    ensures parts { λ r. ⌜ made r (λ m. joined (told m) ≡ now (packet .entry)) ⌝ }
     ensures kind { λ _. ⌜ Kind-is-the-first-word ⌝ }
     ensures shortest { λ _. ⌜ Shortest ⌝ }
     ensures fixes { λ _. ⌜ Fixes-are-words ⌝ }

@@ -8,7 +8,7 @@ use Rattle.std.specs.declared.option.Option.{Option}
 use Rattle.std.specs.declared.option.Option.the-variants.{Some, None}
 use Rattle.values.specs.Refusals.{Refused, limits}
 
--- how many sites it takes so that f of them may break the rules, and t more may stay away from a fast decision
+-- how many sites it takes so that f of them may break the rules, and t may stay away from a fast decision
 abbrev pub sites : ℕ → ℕ → ℕ
 sites f t = 3 * f + 2 * t + 1
 

@@ -6,8 +6,8 @@ ghost use Rattle.values.specs.Refusals.{answered};
 ghost use Rattle.values.specs.Fleets.{sites, fleetOf, fastQuorum, recoveryQuorum, progressQuorum, viewOf, leaderOf, limitOf};
 use super::refusal::Refusal;
 
-// The sites of a harbour: at most `f` of them break the rules, and `t` more may
-// stay away from a fast decision.
+// The sites of a harbour: at most `f` of them break the rules, and `t` may stay away
+// from a fast decision.
 #[derive(Clone, Copy)]
 pub struct Fleet {
     f: u32,
@@ -32,7 +32,7 @@ impl Fleet {
         self.f
     }
 
-    // How many more may stay away from a fast decision.
+    // How many may stay away from a fast decision.
     pub fn t(&self) -> u32
         ensures { λ r. ⌜ r ≡ now (self .entry) .t ⌝ }
     {
