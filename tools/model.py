@@ -1,11 +1,12 @@
 #!/usr/bin/env python3
-"""A second reading of docs/FORMATS.md, written from that page and not from the library.
+"""A second reader and writer of the formats in docs/FORMATS.md, in another language.
 
   model.py explain [L]   explains lines on standard input, as the program `explain` does
   model.py samples       the lines of crates/explain/stdin
   model.py fuzz SEED N   N lines: packets whole, cut and damaged, drafts with tags
 
-Nothing here shares code with the library, so that the two can be compared.
+It shares no code with the library, so that the two can be compared. The same hands wrote both, and knew the
+library when they wrote this: a misreading of the formats could stand in both.
 """
 import random
 import struct
@@ -394,7 +395,7 @@ def main():
         for line in explain(text.split("\n"), limit):
             print(line)
     elif mode == "samples":
-        print("# Explained with tag limit 8. Made by tools/model.py samples, from docs/FORMATS.md.")
+        print("# Explained with tag limit 8. Made by tools/model.py samples.")
         for comment, line in samples():
             print("# " + comment)
             print(line)
