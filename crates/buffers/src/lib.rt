@@ -1,4 +1,6 @@
 // Bytes of a lent buffer: words read from it, and pieces laid into it.
+#![tactic(auto)]
+
 ghost use Rattle.std.specs.Prelude.{◌≡◌, ◌+◌, ◌≤◌, length, replicate, Decides};
 ghost use Rattle.buffers.specs.Words.{word_from, word_bytes};
 ghost use Rattle.buffers.specs.Lays.{Lays};

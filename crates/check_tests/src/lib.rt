@@ -1,4 +1,6 @@
 // Checks, alone and in layers, on examples worked out by hand.
+#![tactic(auto)]
+
 #[cfg(test)]
 mod foreign;
 #[cfg(test)]

@@ -1,4 +1,6 @@
 // Checks: who vouches for a statement.
+#![tactic(auto)]
+
 mod check;
 mod keys;
 mod port;

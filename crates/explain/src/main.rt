@@ -1,4 +1,6 @@
 // Explains packets: lines of hexadecimal text in, a few lines of plain words out for each.
+#![tactic(auto)]
+
 mod show;
 
 use anyhow::anyhow;

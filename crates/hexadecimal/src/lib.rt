@@ -1,4 +1,6 @@
 // Hexadecimal text: two digits a byte, with blanks anywhere.
+#![tactic(auto)]
+
 ghost use Rattle.std.specs.Prelude.{◌≡◌, ◌<◌, [], IfErr, None, OnOk};
 ghost use Rattle.hexadecimal.specs.declared.BadText.TheVariants.{NoMemory};
 ghost use Rattle.hexadecimal.specs.Spelling.{is_space, all_spaces, digit_of, Small, taken, spelled, Tells, SpelledByItsText};

@@ -1,4 +1,6 @@
 // The four messages: their kinds behind one reading interface, whole packets, and drafts.
+#![tactic(auto)]
+
 mod kind;
 mod message;
 

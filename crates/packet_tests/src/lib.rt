@@ -1,4 +1,6 @@
 // Examples of values and packets, worked out by hand.
+#![tactic(auto)]
+
 #[cfg(test)]
 mod fleets;
 #[cfg(test)]

@@ -1,4 +1,6 @@
 // What the library offers for packets: reading, writing and sealing, with their laws.
+#![tactic(auto)]
+
 ghost use Rattle.std.specs.Prelude.{◌≡◌, IfOk};
 ghost use Rattle.values.specs.Refusals.{answered};
 ghost use Rattle.messages.specs.Parts.{told};

@@ -1,4 +1,6 @@
 // SHA-256, as FIPS 180-4 defines it.
+#![tactic(auto)]
+
 mod compression;
 mod functions;
 mod hashing;

@@ -1,4 +1,6 @@
 // Values that sites share: the fleet, views, the tag limit, fixes, and the refusals.
+#![tactic(auto)]
+
 mod fix;
 mod fleet;
 mod refusal;

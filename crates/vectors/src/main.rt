@@ -1,4 +1,6 @@
 // Compares the library with vectors from outside: files of lines, a case a line.
+#![tactic(auto)]
+
 mod formats;
 mod signatures;
 mod tally;

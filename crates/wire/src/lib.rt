@@ -1,4 +1,6 @@
 // What stands in a packet: words, tags, statements and commit certificates, read from lent bytes.
+#![tactic(auto)]
+
 mod certificate;
 mod statement;
 mod tag;

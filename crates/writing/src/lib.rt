@@ -1,4 +1,6 @@
 // Statements, tags, drafts and messages, written into a lent buffer; and sealing.
+#![tactic(auto)]
+
 mod message;
 mod pieces;
 

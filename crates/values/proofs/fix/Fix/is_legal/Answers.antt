@@ -8,4 +8,4 @@ unfolding legal
 returns c =
     let east : SFits w32 c.args.self.now.longitude = search rules in
     let north : SFits w32 c.args.self.now.latitude = search rules in
-    rw (c.legal-track.ensures, simp to_z-of_z at c.between-east.ensures, simp to_z-of_z at c.between-north.ensures)
+    rw (c.legal_track.ensures, simp to_z-of_z at c.between-east.ensures, simp to_z-of_z at c.between-north.ensures)
