@@ -3,4 +3,4 @@ use Rattle.buffers.proofs.word.Goals as goal
 
 pub returns : goal.returns
 unfolding word_from
-returns c = c.from-be-bytes.ensures
+returns c = c.from_be_bytes.ensures

@@ -18,8 +18,8 @@ returns-in-default c =
 
 pub loop-at-preserved : goal.loop-at-preserved
 loop-at-preserved c = (
-  on_digit_lem c.args.text.now c.loop-at.at c.loop-at.high (vec_items c.loop-at.bytes) c.in-Some.value (c.take.new.high, vec_items c.take.new.bytes) c.loop-at-test.true (sym c.is-space.ensures ∙ c.if-is-space.false) (sym c.digit.ensures.value ∙ c.in-Some.is) c.in-ok-take.ensures.after ∙ c.loop-at.invariant.0,
-  c.in-ok-take.ensures.small,
+  on_digit_lem c.args.text.now c.loop-at.at c.loop-at.high (vec_items c.loop-at.bytes) c.in-Some.value (c.take.new.high, vec_items c.take.new.bytes) c.loop-at-test.true (sym c.is_space.ensures ∙ c.if-is_space.false) (sym c.digit.ensures.value ∙ c.in-Some.is) c.in_ok-take.ensures.after ∙ c.loop-at.invariant.0,
+  c.in_ok-take.ensures.small,
 )
 
 pub returns-in-err-take : goal.returns-in-err-take
@@ -37,6 +37,6 @@ pub returns : goal.returns
 returns c =
     record {
       value = sym c.loop-at.invariant.0
-          ∙ ends_full c.args.text.now c.loop-at.at c.loop-at.high (vec_items c.loop-at.bytes) (omega arith) (sym c.is-some.ensures ∙ c.if-is-some.false);
+          ∙ ends_full c.args.text.now c.loop-at.at c.loop-at.high (vec_items c.loop-at.bytes) (omega arith) (sym c.is_some.ensures ∙ c.if-is_some.false);
       every = spelled_by_its_text;
     }
