@@ -2,17 +2,17 @@ use Rattle.std.proofs.Common.{vec_items, sym, ◌∙◌, arith, rules}
 use Rattle.hexadecimal.proofs.Steps.{on_space, on_other, on_digit_lem, ends_half, ends_full, spelled_by_its_text}
 use Rattle.hexadecimal.proofs.decode.Goals as goal
 
-pub loop-at-preserved-then-is-space : goal.loop-at-preserved-then-is-space
-loop-at-preserved-then-is-space c = (
-  on_space c.args.text.now c.loop-at.at c.loop-at.high (vec_items c.loop-at.bytes) c.loop-at-test.true (sym c.is-space.ensures ∙ c.if-is-space.true) ∙ c.loop-at.invariant.0,
+pub loop-at-preserved-then-is_space : goal.loop-at-preserved-then-is_space
+loop-at-preserved-then-is_space c = (
+  on_space c.args.text.now c.loop-at.at c.loop-at.high (vec_items c.loop-at.bytes) c.loop-at-test.true (sym c.is_space.ensures ∙ c.if-is_space.true) ∙ c.loop-at.invariant.0,
   c.loop-at.invariant.1,
 )
 
-pub returns-in-default : goal.returns-in-default
-returns-in-default c =
+pub returns-in_default : goal.returns-in_default
+returns-in_default c =
     record {
       value = sym c.loop-at.invariant.0
-          ∙ on_other c.args.text.now c.loop-at.at c.loop-at.high (vec_items c.loop-at.bytes) c.loop-at-test.true (sym c.is-space.ensures ∙ c.if-is-space.false) (sym c.digit.ensures.value ∙ c.in-default.is);
+          ∙ on_other c.args.text.now c.loop-at.at c.loop-at.high (vec_items c.loop-at.bytes) c.loop-at-test.true (sym c.is_space.ensures ∙ c.if-is_space.false) (sym c.digit.ensures.value ∙ c.in_default.is);
       every = spelled_by_its_text;
     }
 
@@ -22,14 +22,14 @@ loop-at-preserved c = (
   c.in_ok-take.ensures.small,
 )
 
-pub returns-in-err-take : goal.returns-in-err-take
-returns-in-err-take c = record { value = search rules; every = spelled_by_its_text }
+pub returns-in_err-take : goal.returns-in_err-take
+returns-in_err-take c = record { value = search rules; every = spelled_by_its_text }
 
-pub returns-then-is-some : goal.returns-then-is-some
-returns-then-is-some c =
+pub returns-then-is_some : goal.returns-then-is_some
+returns-then-is_some c =
     record {
       value = sym c.loop-at.invariant.0
-          ∙ ends_half c.args.text.now c.loop-at.at c.loop-at.high (vec_items c.loop-at.bytes) (omega arith) (sym c.is-some.ensures ∙ c.if-is-some.true);
+          ∙ ends_half c.args.text.now c.loop-at.at c.loop-at.high (vec_items c.loop-at.bytes) (omega arith) (sym c.is_some.ensures ∙ c.if-is_some.true);
       every = spelled_by_its_text;
     }
 

@@ -4,8 +4,8 @@ use Rattle.std.proofs.lemmas.Bool.Decides.{nat_tests}
 use Rattle.hexadecimal.specs.Spelling.{all_spaces}
 use Rattle.hexadecimal.proofs.is_blank.Goals as goal
 
-pub returns-then-not-is-space : goal.returns-then-not-is-space
-returns-then-not-is-space c =
+pub returns-then-not-is_space : goal.returns-then-not-is_space
+returns-then-not-is_space c =
     let step = at_drop_more all_spaces c.args.text.now c.loop-b.b-index 0 (omega arith) in
     grind (arith, nat_tests)
 
