@@ -7,5 +7,5 @@ use Rattle.checks.proofs.register.register_row.Goals as goal
 pub returns : goal.returns
 returns c =
     let h : length c.args.statement.now ≤ 64 = c.if-statement-gt64.false in
-    let row = row_is c.args.site c.args.statement.now h (then c.put-word-next.ensures.after (then c.put-word-next-2.ensures.after c.put.ensures.after)) in
+    let row = row_is c.args.site c.args.statement.now h (then c.put_word-next.ensures.after (then c.put_word-next-2.ensures.after c.put.ensures.after)) in
     rw (le-leb (length c.args.statement.now) 64 h) (ap Some row)

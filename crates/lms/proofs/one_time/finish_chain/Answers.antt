@@ -5,8 +5,8 @@ use Rattle.lms.specs.Lms.{u16str, chain}
 use Rattle.lms.proofs.Chains.{ready, ready_again, step_hash, chain_more}
 use Rattle.lms.proofs.one_time.finish_chain.Goals as goal
 
-pub put-padding-requires : goal.put-padding-requires
-put-padding-requires c =
+pub put_padding-requires : goal.put_padding-requires
+put_padding-requires c =
     record {
       place = omega (arith, c.requires.width);
       room = omega (arith, c.requires.width, length-padding (23 + length c.args.string.now));
@@ -16,9 +16,9 @@ pub loop-j-init : goal.loop-j-init
 unfolding chain
 loop-j-init c =
     let z : c.args.step - c.args.step ≡ 0 = omega arith in
-    let number = simp c.to-be-bytes.ensures at c.put.ensures.after in
+    let number = simp c.to_be_bytes.ensures at c.put.ensures.after in
     let front = then c.put-next.ensures.after number in (
-      ready (length c.args.string.now) refl c.requires.width (omega (arith, c.requires.start, length-append c.args.start.now (u16str c.args.i))) front c.put-padding.ensures,
+      ready (length c.args.string.now) refl c.requires.width (omega (arith, c.requires.start, length-append c.args.start.now (u16str c.args.i))) front c.put_padding.ensures,
       rw z refl,
     )
 
@@ -28,7 +28,7 @@ loop-j-preserved c =
     let front = c.args.start.now ++ u16str c.args.i in
     let laid = then c.put-next-in-loop-j.ensures.after c.put-in-loop-j.ensures.after in
     let long : length c.loop-j.string ≡ n = c.loop-j.auto.string in
-    let h = step_hash n c.loop-j.j front c.loop-j.string c.loop-j.block c.put-in-loop-j.new.out _ c.requires.width long c.loop-j.invariant.0 laid c.hash-block-h.result c.hash-block-h.ensures in (
+    let h = step_hash n c.loop-j.j front c.loop-j.string c.loop-j.block c.put-in-loop-j.new.out _ c.requires.width long c.loop-j.invariant.0 laid c.hash_block-h.result c.hash_block-h.ensures in (
       ready_again n c.loop-j.j front c.loop-j.string c.loop-j.block c.put-in-loop-j.new.out _ c.requires.width long c.loop-j.invariant.0 laid,
-      chain_more n c.args.i c.args.step c.loop-j.j c.args.start.now c.args.string.now c.loop-j.string c.hash-block-h.result _ (omega arith) (omega arith) c.loop-j.invariant.1 h c.copy-from-slice.ensures.after,
+      chain_more n c.args.i c.args.step c.loop-j.j c.args.start.now c.args.string.now c.loop-j.string c.hash_block-h.result _ (omega arith) (omega arith) c.loop-j.invariant.1 h c.copy_from_slice.ensures.after,
     )

@@ -15,7 +15,7 @@ digested start randomizer message text d et ed =
 pub returns : goal.returns
 returns c =
     let text = filled (then c.put-next.ensures.after (then c.put-next-2.ensures.after c.put.ensures.after)) (omega (arith, c.put.ensures.next)) in
-    let digest = digested c.args.start.now c.args.randomizer.now c.args.message.now c.put.new.out c.hash-joined-digest.result text c.hash-joined-digest.ensures in
-    let sum : c.to-be-bytes.result ≡ u16str (Cksm c.hash-joined-digest.result) = c.to-be-bytes.ensures ∙ ap u16str c.checksum.ensures in
+    let digest = digested c.args.start.now c.args.randomizer.now c.args.message.now c.put.new.out c.hash_joined-digest.result text c.hash_joined-digest.ensures in
+    let sum : c.to_be_bytes.result ≡ u16str (Cksm c.hash_joined-digest.result) = c.to_be_bytes.ensures ∙ ap u16str c.checksum.ensures in
     let steps = filled (then c.put-next-3.ensures.after c.put-2.ensures.after) (omega (arith, c.put-2.ensures.next)) in
-    steps ∙ ap (λ s. c.hash-joined-digest.result ++ s) sum ∙ ap summed digest
+    steps ∙ ap (λ s. c.hash_joined-digest.result ++ s) sum ∙ ap summed digest

@@ -16,10 +16,10 @@ loop-i-init c = (
 pub loop-i-preserved : goal.loop-i-preserved
 loop-i-preserved c =
     let string = filled c.put.ensures.after (omega (arith, c.put.ensures.next)) ∙ cut_string 32 c.loop-i.i c.args.strings.now in
-    let end = end_of 32 c.loop-i.i _ c.args.start.now c.args.strings.now c.put.new.out c.finish-chain.new.string string (omega arith) c.finish-chain.ensures in (
+    let end = end_of 32 c.loop-i.i _ c.args.start.now c.args.strings.now c.put.new.out c.finish_chain.new.string string (omega arith) c.finish_chain.ensures in (
       omega arith,
       omega (arith, c.put-next-in-loop-i.ensures.next, c.loop-i.invariant.1),
-      ends_more 32 c.loop-i.i _ (c.args.start.now ++ D-PBLC) c.args.start.now c.args.steps.now c.args.strings.now c.finish-chain.new.string refl end c.loop-i.invariant.2 c.put-next-in-loop-i.ensures.after,
+      ends_more 32 c.loop-i.i _ (c.args.start.now ++ D-PBLC) c.args.start.now c.args.steps.now c.args.strings.now c.finish_chain.new.string refl end c.loop-i.invariant.2 c.put-next-in-loop-i.ensures.after,
     )
 
 pub returns : goal.returns

@@ -6,6 +6,6 @@ use Rattle.lms.proofs.tree.hash_parent.Goals as goal
 pub returns : goal.returns
 returns c =
     hashed_text c.hash.result
-    (then c.put-next.ensures.after (then c.put-word-next.ensures.after (then c.put-next-2.ensures.after (then c.put-next-3.ensures.after c.put.ensures.after))))
+    (then c.put-next.ensures.after (then c.put_word-next.ensures.after (then c.put-next-2.ensures.after (then c.put-next-3.ensures.after c.put.ensures.after))))
     (omega (arith, c.put.ensures.next))
     c.hash.ensures.value

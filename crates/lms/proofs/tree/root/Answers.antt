@@ -12,11 +12,11 @@ pub loop-i-preserved : goal.loop-i-preserved
 loop-i-preserved c = (
   omega arith,
   node_above (32 + c.args.leaf) c.loop-i.i c.loop-i.node c.loop-i.invariant.1,
-  level_up 32 (32 + c.args.leaf) c.loop-i.i c.loop-i.node c.args.id.now c.args.path.now c.hash-leaf-value.result c.loop-i.value _ c.hash-above-value.result c.loop-i.invariant.1 c.loop-i.invariant.2 (cut_string 32 c.loop-i.i c.args.path.now) c.hash-above-value.ensures,
+  level_up 32 (32 + c.args.leaf) c.loop-i.i c.loop-i.node c.args.id.now c.args.path.now c.hash_leaf-value.result c.loop-i.value _ c.hash_above-value.result c.loop-i.invariant.1 c.loop-i.invariant.2 (cut_string 32 c.loop-i.i c.args.path.now) c.hash_above-value.ensures,
 )
 
 pub returns : goal.returns
 unfolding Tc
 returns c =
     let n : c.loop-i.i ≡ 5 = omega arith in
-    rw n at c.loop-i.invariant.2 ∙ ap (λ x. climbed 32 c.args.id.now c.args.path.now (32 + c.args.leaf) x 5) c.hash-leaf-value.ensures
+    rw n at c.loop-i.invariant.2 ∙ ap (λ x. climbed 32 c.args.id.now c.args.path.now (32 + c.args.leaf) x 5) c.hash_leaf-value.ensures

@@ -3,9 +3,9 @@ use Rattle.wire.specs.Layout.{claim_at, change_at, progress_at, votes_at, certif
 use Rattle.messages.proofs.Envelopes.{draft_same}
 use Rattle.messages.proofs.message.draft_end.Goals as goal
 
-pub returns-in-err-word-at : goal.returns-in-err-word-at
+pub returns-in_err-word_at : goal.returns-in_err-word_at
 unfolding draft_end
-returns-in-err-word-at c =
+returns-in_err-word_at c =
     search rules
 
 pub returns-in-1 : goal.returns-in-1
@@ -32,7 +32,7 @@ returns-in-4 c =
     let e = draft_same c.args.draft.now 4 (change_at c.args.draft.now) (λ s. certified_at c.args.limit.bytes c.args.draft.now s.committed) in
     search rules
 
-pub returns-in-default : goal.returns-in-default
+pub returns-in_default : goal.returns-in_default
 unfolding draft_end
-returns-in-default c =
+returns-in_default c =
     search rules

@@ -2,9 +2,9 @@ use Rattle.std.proofs.Common.{rules}
 use Rattle.wire.specs.Layout.{message_of}
 use Rattle.messages.proofs.message.read_message.Goals as goal
 
-pub returns-in-err-word-at : goal.returns-in-err-word-at
+pub returns-in_err-word_at : goal.returns-in_err-word_at
 unfolding message_of
-returns-in-err-word-at c = search rules
+returns-in_err-word_at c = search rules
 
 pub returns-in-1 : goal.returns-in-1
 unfolding message_of
@@ -22,6 +22,6 @@ pub returns-in-4 : goal.returns-in-4
 unfolding message_of
 returns-in-4 c = search rules
 
-pub returns-in-default : goal.returns-in-default
+pub returns-in_default : goal.returns-in_default
 unfolding message_of
-returns-in-default c = search rules
+returns-in_default c = search rules

@@ -6,8 +6,8 @@ use Rattle.sha256.specs.Sha256.{padding, after_all, digest}
 use Rattle.sha256.proofs.Blocks.{length-padding, padding-mod, whole_blocks}
 use Rattle.sha256.proofs.hashing.finish.Goals as goal
 
-pub put-padding-end-requires : goal.put-padding-end-requires
-put-padding-end-requires c =
+pub put_padding-end-requires : goal.put_padding-end-requires
+put_padding-end-requires c =
     record {
       place = omega (arith, c.requires, c.put-next.ensures.next);
       room = omega (arith, c.put-next.ensures.next, length-padding ((c.args.before + length c.args.rest.now) % 2 ^ 64));
@@ -27,9 +27,9 @@ blocks s u v m out part total end from ef ep eu et ev =
 
 pub returns : goal.returns
 returns c =
-    c.to-bytes.ensures
+    c.to_bytes.ensures
     ∙ ap digest (
-    blocks c.args.state c.absorb-state.result c.absorb.result c.args.rest.now c.put-padding-end.new.out _ (c.args.before + length c.args.rest.now) c.put-padding-end.result _ refl refl
+    blocks c.args.state c.absorb-state.result c.absorb.result c.args.rest.now c.put_padding-end.new.out _ (c.args.before + length c.args.rest.now) c.put_padding-end.result _ refl refl
     c.absorb-state.ensures
-    (fronted (then c.put-next.ensures.after c.put-padding-end.ensures))
+    (fronted (then c.put-next.ensures.after c.put_padding-end.ensures))
     c.absorb.ensures)

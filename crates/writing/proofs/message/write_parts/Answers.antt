@@ -6,29 +6,29 @@ use Rattle.writing.specs.Written.{sending_of}
 use Rattle.writing.proofs.Laying.{then, writes, cramped}
 use Rattle.writing.proofs.message.write_parts.Goals as goal
 
-pub returns-then-tag-bytes : goal.returns-then-tag-bytes
+pub returns-then-tag_bytes : goal.returns-then-tag_bytes
 unfolding sending_of
-returns-then-tag-bytes c = search rules
+returns-then-tag_bytes c = search rules
 
-pub put-statement-next-requires : goal.put-statement-next-requires
-put-statement-next-requires c =
-    let room = leb-true (c.statement-length.result + 4 + c.pad.result + length c.args.attachment.now) (length c.args.out.now) (sym c.has-room.ensures ∙ c.if-not-has-room.false) in
+pub put_statement-next-requires : goal.put_statement-next-requires
+put_statement-next-requires c =
+    let room = leb-true (c.statement_length.result + 4 + c.pad.result + length c.args.attachment.now) (length c.args.out.now) (sym c.has_room.ensures ∙ c.if-not-has_room.false) in
     omega arith
 
-pub put-tag-next-requires : goal.put-tag-next-requires
-put-tag-next-requires c =
-    let room = leb-true (c.statement-length.result + 4 + c.pad.result + length c.args.attachment.now) (length c.args.out.now) (sym c.has-room.ensures ∙ c.if-not-has-room.false) in
+pub put_tag-next-requires : goal.put_tag-next-requires
+put_tag-next-requires c =
+    let room = leb-true (c.statement_length.result + 4 + c.pad.result + length c.args.attachment.now) (length c.args.out.now) (sym c.has_room.ensures ∙ c.if-not-has_room.false) in
     (omega (arith, length-tag c.args.tag.now), omega arith)
 
 pub put-requires : goal.put-requires
 put-requires c =
-    let room = leb-true (c.statement-length.result + 4 + c.pad.result + length c.args.attachment.now) (length c.args.out.now) (sym c.has-room.ensures ∙ c.if-not-has-room.false) in
+    let room = leb-true (c.statement_length.result + 4 + c.pad.result + length c.args.attachment.now) (length c.args.out.now) (sym c.has_room.ensures ∙ c.if-not-has_room.false) in
     omega (arith, length-tag c.args.tag.now)
 
-pub returns-then-not-has-room : goal.returns-then-not-has-room
+pub returns-then-not-has_room : goal.returns-then-not-has_room
 unfolding sending_of
-returns-then-not-has-room c =
-    let tight = leb-false (c.statement-length.result + 4 + c.pad.result + length c.args.attachment.now) (length c.args.out.now) (sym c.has-room.ensures ∙ c.if-not-has-room.true) in
+returns-then-not-has_room c =
+    let tight = leb-false (c.statement_length.result + 4 + c.pad.result + length c.args.attachment.now) (length c.args.out.now) (sym c.has_room.ensures ∙ c.if-not-has_room.true) in
     let fits = le-leb (length c.args.tag.now) c.args.limit.bytes (omega arith) in
     let bytes = statement_bytes c.args.statement ++ (tag_bytes c.args.tag.now ++ c.args.attachment.now) in
     let w = cramped c.args.out.now bytes (omega (arith, length-append (statement_bytes c.args.statement) (tag_bytes c.args.tag.now ++ c.args.attachment.now), length-append (tag_bytes c.args.tag.now) c.args.attachment.now, length-tag c.args.tag.now)) in
@@ -38,5 +38,5 @@ pub returns : goal.returns
 unfolding sending_of
 returns c =
     let fits = le-leb (length c.args.tag.now) c.args.limit.bytes (omega arith) in
-    let w = writes (then c.put-statement-next.ensures.after (then c.put-tag-next.ensures.after c.put.ensures.after)) in
+    let w = writes (then c.put_statement-next.ensures.after (then c.put_tag-next.ensures.after c.put.ensures.after)) in
     record { value = simp fits w.0; after = simp fits w.1 }

@@ -6,5 +6,5 @@ pub returns : goal.returns
 returns c =
     record {
       next = search rules;
-      after = then c.put-word-next.ensures.after (then c.put-head-next.ensures.after c.put-value.ensures.after);
+      after = then c.put_word-next.ensures.after (then c.put_head-next.ensures.after c.put_value.ensures.after);
     }

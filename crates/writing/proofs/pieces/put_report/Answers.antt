@@ -6,5 +6,5 @@ pub returns-in-Some : goal.returns-in-Some
 returns-in-Some c =
     record {
       next = search rules;
-      after = simp c.in-Some.is (then c.put-word-next.ensures.after (then c.put-word-next-in-Some.ensures.after c.put-value.ensures.after));
+      after = simp c.in-Some.is (then c.put_word-next.ensures.after (then c.put_word-next-in-Some.ensures.after c.put_value.ensures.after));
     }

@@ -6,5 +6,5 @@ pub returns : goal.returns
 returns c =
     record {
       next = search rules;
-      after = then c.put-word-next.ensures.after (then c.put-word-next-2.ensures.after c.put-word.ensures.after);
+      after = then c.put_word-next.ensures.after (then c.put_word-next-2.ensures.after c.put_word.ensures.after);
     }

@@ -6,7 +6,7 @@ use Rattle.checks.proofs.port.PortPrefixCheck.vouches.Goals as goal
 pub returns : goal.returns
 returns g c =
     let m = c.args.statement.now in
-    let port = simp c.to-be-bytes.ensures at c.put-next.ensures.after in
+    let port = simp c.to_be_bytes.ensures at c.put-next.ensures.after in
     let asked = fronted (then port c.put-end.ensures.after) in
     let end : c.put-end.result - 0 ≡ c.put-end.result = omega arith in
     c.vouches.ensures

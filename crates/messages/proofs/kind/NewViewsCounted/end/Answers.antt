@@ -3,12 +3,12 @@ use Rattle.wire.specs.Places.{behind}
 use Rattle.messages.proofs.Located.{turn_behind}
 use Rattle.messages.proofs.kind.NewViewsCounted.end.Goals as goal
 
-pub returns-in-err-end : goal.returns-in-err-end
-returns-in-err-end c =
-    let e = ap behind c.envelope-at.ensures.value ∙ turn_behind c.args.limit.bytes c.args.packet.now c.args.at in
+pub returns-in_err-end : goal.returns-in_err-end
+returns-in_err-end c =
+    let e = ap behind c.envelope_at.ensures.value ∙ turn_behind c.args.limit.bytes c.args.packet.now c.args.at in
     search rules
 
 pub returns : goal.returns
 returns c =
-    let e = ap behind c.envelope-at.ensures.value ∙ turn_behind c.args.limit.bytes c.args.packet.now c.args.at in
+    let e = ap behind c.envelope_at.ensures.value ∙ turn_behind c.args.limit.bytes c.args.packet.now c.args.at in
     search rules

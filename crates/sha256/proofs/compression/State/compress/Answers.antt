@@ -9,7 +9,7 @@ loop-t-init c = refl
 
 pub loop-t-preserved : goal.loop-t-preserved
 loop-t-preserved c =
-    round_more c.args.self c.loop-t.v c.round-v.result c.message-schedule-w.result c.loop-t.t
+    round_more c.args.self c.loop-t.v c.round-v.result c.message_schedule-w.result c.loop-t.t
     c.loop-t.invariant
     c.round-v.ensures
 
@@ -17,5 +17,5 @@ pub returns : goal.returns
 unfolding compressed
 returns c =
     let e : c.loop-t.t ≡ 64 = omega arith in
-    let i : c.loop-t.v ≡ rounds 64 c.args.self c.message-schedule-w.result = rw e at c.loop-t.invariant in
+    let i : c.loop-t.v ≡ rounds 64 c.args.self c.message_schedule-w.result = rw e at c.loop-t.invariant in
     cc

@@ -5,12 +5,12 @@ pub returns : goal.returns
 unfolding digest
 returns c =
     simp (
-      c.to-be-bytes.ensures,
-      c.to-be-bytes-2.ensures,
-      c.to-be-bytes-3.ensures,
-      c.to-be-bytes-4.ensures,
-      c.to-be-bytes-5.ensures,
-      c.to-be-bytes-6.ensures,
-      c.to-be-bytes-7.ensures,
-      c.to-be-bytes-8.ensures,
+      c.to_be_bytes.ensures,
+      c.to_be_bytes-2.ensures,
+      c.to_be_bytes-3.ensures,
+      c.to_be_bytes-4.ensures,
+      c.to_be_bytes-5.ensures,
+      c.to_be_bytes-6.ensures,
+      c.to_be_bytes-7.ensures,
+      c.to_be_bytes-8.ensures,
     )
