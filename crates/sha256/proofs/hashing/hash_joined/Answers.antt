@@ -24,7 +24,7 @@ joined front first rest message block digested s em eb h es ed =
 
 pub returns : goal.returns
 returns c =
-    let block = filled (then c.put-next.ensures.after c.put.ensures.after) (omega (arith, c.put.ensures.next, c.put-next.ensures.next, c.split_at.ensures.front-len)) in
+    let block = filled (then c.put-next.ensures.after c.put.ensures.after) (omega (arith, c.put.ensures.next, c.put-next.ensures.next, c.split_at.ensures.front_len)) in
     joined c.args.front.now c.split_at.result.0.now c.split_at.result.1.now c.args.message.now c.put.new.out c.finish.result c.compress.result
     c.split_at.ensures.by_index.0
     block

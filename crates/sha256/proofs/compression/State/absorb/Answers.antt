@@ -9,7 +9,7 @@ loop-block-init c = refl
 
 pub loop-block-preserved : goal.loop-block-preserved
 loop-block-preserved c =
-    let h : c.loop-block.block-index < length c.args.bytes.now / 64 = omega (arith, c.as_chunks.ensures.front-len) in
+    let h : c.loop-block.block-index < length c.args.bytes.now / 64 = omega (arith, c.as_chunks.ensures.front_len) in
     block_more c.args.self c.loop-block.state _ c.args.bytes.now c.as_chunks.result.0.now _ c.loop-block.block-index _
     c.as_chunks.ensures.front
     h
@@ -18,5 +18,5 @@ loop-block-preserved c =
 
 pub returns : goal.returns
 returns c =
-    let k : c.loop-block.block-index ≡ length c.args.bytes.now / 64 = omega (arith, c.as_chunks.ensures.front-len) in
+    let k : c.loop-block.block-index ≡ length c.args.bytes.now / 64 = omega (arith, c.as_chunks.ensures.front_len) in
     rw k at c.loop-block.invariant
