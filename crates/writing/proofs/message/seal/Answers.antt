@@ -6,9 +6,9 @@ use Rattle.writing.specs.Written.{sealing}
 use Rattle.writing.proofs.Laying.{then, from_start}
 use Rattle.writing.proofs.message.seal.Goals as goal
 
-pub returns-then-tag_bytes : goal.returns-then-tag_bytes
+pub returns-then-tag-bytes : goal.returns-then-tag-bytes
 unfolding sealing
-returns-then-tag_bytes c = search rules
+returns-then-tag-bytes c = search rules
 
 pub returns-then-not-has_room : goal.returns-then-not-has_room
 unfolding sealing

@@ -6,9 +6,9 @@ use Rattle.writing.specs.Written.{sending_of}
 use Rattle.writing.proofs.Laying.{then, writes, cramped}
 use Rattle.writing.proofs.message.write_parts.Goals as goal
 
-pub returns-then-tag_bytes : goal.returns-then-tag_bytes
+pub returns-then-tag-bytes : goal.returns-then-tag-bytes
 unfolding sending_of
-returns-then-tag_bytes c = search rules
+returns-then-tag-bytes c = search rules
 
 pub put_statement-next-requires : goal.put_statement-next-requires
 put_statement-next-requires c =
