@@ -15,5 +15,5 @@ returns c =
     let m = c.in_ok-read_message.field-0 in
     let e : reading_of c.args.limit.bytes c.args.packet.now ≡ Ok (told m) =
     sym (ap faulted c.read_message.ensures) ∙ ap (λ r. faulted (map_ok told r)) c.in_ok-read_message.was in
-    let bytes : Bytes c.args.packet.now = λ i. (c.type-inv.packet i).fits in
+    let bytes : Bytes c.args.packet.now = λ i. (c.type_inv.packet i).fits in
     record { value = sym e; one_string = one_byte_string; parts = parts_are_the_packet c.args.limit.bytes c.args.packet.now (told m) bytes e; kind = kind_is_the_first_word; shortest = shortest; fixes = fixes_are_words }
