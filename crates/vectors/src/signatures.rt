@@ -17,7 +17,7 @@ pub fn run_digest(rt: &HostRuntime, words: &[&str], tally: &mut Tally) -> anyhow
     }
     let digest = bytes(rt, words, 4)?;
     print!(rt; "digest of {name}")?;
-    tally.note(rt, &hash(message.as_slice()) == digest.as_slice())
+    tally.note(rt, hash(message.as_slice()).as_slice() == digest.as_slice())
 }
 
 // A signature that later lines speak of.
