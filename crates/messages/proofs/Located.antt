@@ -1,17 +1,15 @@
 -- A content read from a packet, and the parts of the packet that hold it.
-use Rattle.std.proofs.Common.{◌≡◌, ℕ, ◌+◌, ◌-◌, ◌≤◌, List, [], length, take, drop, Some, None, Ok, Err, Option, Result, sym, refl, ap, ◌∙◌, arith}
+use Rattle.std.proofs.Common.{◌≡◌, ℕ, ◌+◌, ◌-◌, List, [], length, take, drop, Some, None, Ok, Option, sym, ap, ◌∙◌, arith}
 use Rattle.std.proofs.lemmas.List.{take_rest, drop_all}
 use Rattle.values.specs.declared.fix.Report.{Report}
-use Rattle.wire.specs.declared.words.Malformed.{Malformed}
 use Rattle.wire.specs.declared.statement.Claim.{Claim}
 use Rattle.wire.specs.declared.statement.ViewChange.{ViewChange}
 use Rattle.wire.specs.declared.statement.Statement.{Statement}
 use Rattle.wire.specs.declared.statement.Statement.TheVariants.{Propose, Prepare, Commit, NewView}
-use Rattle.wire.specs.Words.{bind}
-use Rattle.wire.specs.Contents.{Vote, Certified, Turn, Content, propose, prepare, commit, new_view, reported, change_of, change_bytes, statement_bytes, tag_bytes}
+use Rattle.wire.specs.Contents.{Certified, Turn, Content, propose, prepare, commit, new_view, reported, change_bytes, statement_bytes, tag_bytes}
 use Rattle.wire.specs.Layout.{claim_at, change_at, tag_at, votes_at, certified_at, progress_at, turn_at, nothing_at, wholly, propose_of, prepare_of, commit_of, new_view_of}
 use Rattle.wire.specs.Places.{behind}
-use Rattle.messages.specs.Parts.{map_ok, Cut, Pieces, pieced, parts_at, rest_at, locate}
+use Rattle.messages.specs.Parts.{map_ok, Pieces, pieced, parts_at, rest_at, locate}
 use Rattle.wire.proofs.Results.{bind_ok, ok_same}
 use Rattle.wire.proofs.Lengths.{tag_read_lem, claim_ends, change_ends}
 use Rattle.messages.proofs.Envelopes.{envelope_on, envelope_behind, envelope_same}

@@ -1,10 +1,9 @@
 -- What stands at a place of a list, and words that stand there.
-use Rattle.std.proofs.Common.{◌≡◌, ℕ, ◌+◌, ◌*◌, ◌/◌, ◌%◌, ◌^◌, ◌<◌, ◌≤◌, leb, List, [], ◌∷◌, ◌++◌, length, get_or, drop, Ok, Err, sym, refl, ap, ◌∙◌, append_assoc, append-nil, mod-eq_of_lt, div-add-mod', arith, length-drop}
+use Rattle.std.proofs.Common.{◌≡◌, ℕ, ◌+◌, ◌*◌, ◌/◌, ◌%◌, ◌^◌, ◌<◌, ◌≤◌, List, [], ◌++◌, length, get_or, drop, Ok, sym, ap, ◌∙◌, append_assoc, append-nil, mod-eq_of_lt, div-add-mod', arith, length-drop}
 use native.Mathlib.Nat.{div-div-eq-div-mul}
 use Rattle.std.proofs.lemmas.List.{get_or-drop, drop-drop, drop_at}
 use Rattle.std.proofs.lemmas.Nat.{div_below}
 use Rattle.std.proofs.lemmas.Bool.{le-leb}
-use Rattle.wire.specs.declared.words.Malformed.{Malformed}
 use Rattle.wire.specs.Words.{word_at, word_bytes}
 
 -- at a place of b stands xs, and then the rest

@@ -1,5 +1,5 @@
 -- What is read stands there as it is written, and in no other bytes.
-use Rattle.std.proofs.Common.{◌≡◌, ℕ, zero, suc, ◌+◌, ◌-◌, ◌*◌, ◌/◌, ◌%◌, ◌^◌, ◌<◌, ◌≤◌, Bool, true, false, cond, ◌&&◌, eqb, leb, List, [], ◌∷◌, ◌++◌, length, get_or, take, drop, replicate, Some, None, Ok, Err, Option, Result, sym, refl, ap, ◌∙◌, subst, append_assoc, append-nil, arith, length-append, length-drop}
+use Rattle.std.proofs.Common.{◌≡◌, ℕ, zero, suc, ◌+◌, ◌-◌, ◌*◌, ◌/◌, ◌%◌, ◌^◌, ◌<◌, ◌≤◌, true, ◌&&◌, eqb, leb, List, [], ◌∷◌, ◌++◌, length, get_or, take, drop, replicate, Some, None, Ok, Option, Result, sym, refl, ap, ◌∙◌, append_assoc, append-nil, arith, length-drop}
 use Rattle.std.proofs.lemmas.List.{drop_more, drop-drop, drop_all, take-append-drop, length-take-le}
 use Rattle.std.proofs.lemmas.Bool.{leb-true, eqb-true, and_parts}
 use Rattle.values.specs.declared.fix.Value.{Value}
@@ -8,8 +8,8 @@ use Rattle.wire.specs.declared.words.Malformed.{Malformed}
 use Rattle.wire.specs.declared.statement.Head.{Head}
 use Rattle.wire.specs.declared.statement.Claim.{Claim}
 use Rattle.wire.specs.declared.statement.ViewChange.{ViewChange}
-use Rattle.wire.specs.Words.{bind, fault, word_at, word_bytes}
-use Rattle.wire.specs.Contents.{three_bytes, value_bytes, head_bytes, report_bytes, claim_bytes, change_bytes, padded, tag_bytes, Vote, vote_bytes, votes_bytes, certificate_bytes, Certified, reported, certified_bytes, Turn, change_of, turn_bytes, turns_bytes, progress_bytes}
+use Rattle.wire.specs.Words.{word_at, word_bytes}
+use Rattle.wire.specs.Contents.{three_bytes, value_bytes, head_bytes, report_bytes, claim_bytes, change_bytes, padded, tag_bytes, Vote, vote_bytes, votes_bytes, certificate_bytes, Certified, reported, certified_bytes, Turn, turn_bytes, turns_bytes, progress_bytes}
 use Rattle.wire.specs.Layout.{three_at, value_at, head_at, report_by, report_at, claim_at, change_at, zeros, tag_by, tag_at, count_at, many_at, vote_at, votes_at, certified_at, kind_at, envelope_at, turn_at, progress_at, ending, wholly}
 use Rattle.wire.proofs.Results.{bind_ok, cond_ok, ok_same}
 use Rattle.wire.proofs.Lengths.{tag_read_lem}

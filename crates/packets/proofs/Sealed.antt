@@ -1,25 +1,20 @@
 -- Sealed drafts, and the other laws.
-use Rattle.std.proofs.Common.{◌≡◌, ℕ, ◌+◌, ◌^◌, ◌<◌, ◌≤◌, Bool, true, false, cond, leb, List, [], ◌∷◌, ◌++◌, length, take, drop, ℤ, Some, None, Ok, Err, Option, Result, sym, refl, ap, ◌∙◌, subst, append_assoc, arith, length-append, w32, SFits, to_z, of_z}
+use Rattle.std.proofs.Common.{◌≡◌, ℕ, ◌+◌, ◌^◌, ◌<◌, ◌≤◌, Bool, true, false, cond, leb, List, [], ◌++◌, length, take, drop, Some, None, Ok, Err, Option, Result, sym, refl, ap, ◌∙◌, subst, append_assoc, arith, length-append, w32}
 use Rattle.std.proofs.lemmas.List.{take_at, drop_at}
 use Rattle.std.proofs.lemmas.Int.{to_z-of_z, of_z-to_z}
 use Rattle.std.proofs.lemmas.Bool.{le-leb, leb-true}
 use Rattle.values.specs.declared.fix.Report.{Report}
-use Rattle.values.specs.declared.fix.Value.{Value}
-use Rattle.values.specs.declared.fix.Fix.{Fix}
-use Rattle.values.specs.Fixes.{fix_of, words_of}
 use Rattle.values.specs.Refusals.{Refused, short, layout}
 use Rattle.wire.specs.declared.words.Malformed.{Malformed}
-use Rattle.wire.specs.declared.statement.Claim.{Claim}
 use Rattle.wire.specs.declared.statement.Statement.{Statement}
 use Rattle.wire.specs.declared.statement.Statement.TheVariants.{Propose, Prepare, Commit, NewView}
 use Rattle.wire.specs.Words.{word_at, word_bytes}
-use Rattle.wire.specs.Contents.{kind_of, body_bytes, statement_bytes, report_bytes, tag_bytes, certificate_bytes, certified_bytes, reported, change_of, turn_bytes, progress_bytes, Content, propose, prepare, commit, new_view, statement_of, tag_of, attachment_bytes, message_bytes, draft_bytes, with_tag}
+use Rattle.wire.specs.Contents.{kind_of, body_bytes, statement_bytes, report_bytes, tag_bytes, certificate_bytes, certified_bytes, reported, progress_bytes, Content, propose, prepare, commit, new_view, statement_of, tag_of, attachment_bytes, message_bytes, draft_bytes, with_tag}
 use Rattle.wire.specs.Layout.{message_of, draft_end}
 use Rattle.messages.specs.Parts.{Pieces, map_ok, locate, shortest_of}
 use Rattle.wire.proofs.Lengths.{length-tag}
 use Rattle.writing.specs.Written.{refusing, sealed_bytes, sealing_by, sealing}
-use Rattle.packets.specs.Fits.{ValueFits, ContentFits, Bytes}
-use Rattle.packets.specs.Laws.{faulted, reading_of, parts_of, WrittenReadsBack, OneByteString, PartsAreThePacket, KindIsTheFirstWord, StatementsToldApart, SealedReadsBack, DraftsAreSealed, Shortest, FixesAreWords}
+use Rattle.packets.specs.Laws.{faulted, WrittenReadsBack, OneByteString, PartsAreThePacket, KindIsTheFirstWord, StatementsToldApart, SealedReadsBack, DraftsAreSealed, Shortest, FixesAreWords}
 use Rattle.packets.proofs.Held.{front, whole, word_back}
 use Rattle.packets.proofs.Back.{message_back, draft_back, told_apart}
 use Rattle.packets.proofs.Whole.{message_only, draft_only}

@@ -1,5 +1,5 @@
 -- The laws of reading, writing and sealing.
-use Rattle.std.specs.Prelude.{◌≡◌, ℕ, ◌+◌, ◌^◌, ◌<◌, ◌≤◌, List, [], ◌++◌, length, take, Some, None, Ok, Err, Option, Result, FitsSigned}
+use Rattle.std.specs.Prelude.{◌≡◌, ℕ, ◌+◌, ◌≤◌, List, [], ◌++◌, length, take, Some, None, Ok, Err, Result, FitsSigned}
 use Rattle.std.specs.Int.{w32}
 use Rattle.values.specs.declared.fix.Value.{Value}
 use Rattle.values.specs.declared.fix.Fix.{Fix}
@@ -9,7 +9,7 @@ use Rattle.wire.specs.declared.words.Malformed.{Malformed}
 use Rattle.wire.specs.declared.statement.Head.{Head}
 use Rattle.wire.specs.declared.statement.Statement.{Statement}
 use Rattle.wire.specs.Words.{word_at}
-use Rattle.wire.specs.Contents.{kind_of, statement_bytes, tag_bytes, Turn, Content, propose, prepare, commit, new_view, statement_of, tag_of, attachment_bytes, message_bytes, draft_bytes, with_tag}
+use Rattle.wire.specs.Contents.{kind_of, statement_bytes, tag_bytes, Content, propose, prepare, commit, new_view, statement_of, tag_of, attachment_bytes, message_bytes, draft_bytes, with_tag}
 use Rattle.wire.specs.Layout.{message_of}
 use Rattle.messages.specs.Parts.{Pieces, map_ok, locate, shortest_of}
 use Rattle.writing.specs.Written.{sealing}

@@ -1,14 +1,12 @@
 -- What was read stands between its place and the place behind it.
-use Rattle.std.proofs.Common.{◌≡◌, ℕ, zero, suc, ◌+◌, ◌-◌, ◌≤◌, ◌&&◌, leb, List, ◌++◌, length, take, drop, Ok, Err, Option, sym, refl, ap, ◌∙◌, arith, length-append, length-drop}
+use Rattle.std.proofs.Common.{◌≡◌, ℕ, zero, suc, ◌+◌, ◌-◌, ◌≤◌, ◌&&◌, leb, List, length, take, drop, Ok, Option, sym, arith, length-append, length-drop}
 use Rattle.std.proofs.lemmas.List.{length-take-le, length-replicate}
 use Rattle.std.proofs.lemmas.Bool.{leb-true, and_parts}
 use Rattle.values.specs.declared.fix.Report.{Report}
-use Rattle.wire.specs.declared.words.Malformed.{Malformed}
 use Rattle.wire.specs.declared.statement.Claim.{Claim}
 use Rattle.wire.specs.declared.statement.ViewChange.{ViewChange}
-use Rattle.wire.specs.declared.statement.Statement.TheVariants.{NewView}
-use Rattle.wire.specs.Words.{bind, fault, word_at}
-use Rattle.wire.specs.Contents.{report_bytes, change_bytes, statement_bytes, padded, tag_bytes}
+use Rattle.wire.specs.Words.{word_at}
+use Rattle.wire.specs.Contents.{report_bytes, change_bytes, padded, tag_bytes}
 use Rattle.wire.specs.Layout.{value_at, head_at, report_by, report_at, claim_at, change_at, zeros, tag_by, tag_at}
 use Rattle.wire.proofs.Results.{bind_ok, cond_ok, ok_same}
 

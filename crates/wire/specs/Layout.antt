@@ -1,5 +1,5 @@
 -- What stands at a place of a packet, and the earliest fault of its layout.
-use Rattle.std.specs.Prelude.{ℕ, zero, suc, ◌+◌, ◌-◌, Bool, true, cond, ◌&&◌, List, [], ◌∷◌, length, take, drop, Some, None, Ok, Err, Option, Result, ◌==◌, nat_le}
+use Rattle.std.specs.Prelude.{ℕ, zero, suc, ◌+◌, ◌-◌, Bool, true, cond, ◌&&◌, List, [], ◌∷◌, length, take, drop, Some, None, Ok, Option, Result, ◌==◌, nat_le}
 use Rattle.values.specs.declared.fix.Value.{Value}
 use Rattle.values.specs.declared.fix.Report.{Report}
 use Rattle.wire.specs.declared.words.Malformed.{Malformed}

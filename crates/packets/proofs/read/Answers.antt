@@ -1,4 +1,4 @@
-use Rattle.std.proofs.Common.{◌≡◌, Ok, sym, ap, ◌∙◌, arith, rules}
+use Rattle.std.proofs.Common.{◌≡◌, Ok, sym, ap, ◌∙◌, rules}
 use Rattle.messages.specs.Parts.{map_ok, told}
 use Rattle.packets.specs.Fits.{Bytes}
 use Rattle.packets.specs.Laws.{faulted, reading_of}

@@ -1,4 +1,3 @@
-use Rattle.std.proofs.Common.{rules}
 use Rattle.writing.proofs.message.write_message.Goals as goal
 
 pub returns-in-Propose : goal.returns-in-Propose

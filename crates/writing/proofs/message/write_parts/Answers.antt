@@ -1,6 +1,6 @@
 use Rattle.std.proofs.Common.{◌+◌, ◌++◌, length, sym, ◌∙◌, arith, length-append, rules}
 use Rattle.std.proofs.lemmas.Bool.{le-leb, leb-true, leb-false}
-use Rattle.wire.specs.Contents.{statement_bytes, tag_bytes, padded}
+use Rattle.wire.specs.Contents.{statement_bytes, tag_bytes}
 use Rattle.wire.proofs.Lengths.{length-tag}
 use Rattle.writing.specs.Written.{sending_of}
 use Rattle.writing.proofs.Laying.{then, writes, cramped}

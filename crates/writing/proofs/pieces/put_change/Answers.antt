@@ -1,4 +1,4 @@
-use Rattle.std.proofs.Common.{arith, length-append, rules}
+use Rattle.std.proofs.Common.{arith, length-append}
 use Rattle.wire.specs.Contents.{report_bytes}
 use Rattle.writing.proofs.Laying.{then}
 use Rattle.writing.proofs.pieces.put_change.Goals as goal

@@ -1,4 +1,4 @@
-use Rattle.std.proofs.Common.{arith, rules}
+use Rattle.std.proofs.Common.{arith}
 use Rattle.wire.proofs.Lengths.{length-tag}
 use Rattle.writing.proofs.Laying.{then}
 use Rattle.writing.proofs.pieces.put_tag.Goals as goal

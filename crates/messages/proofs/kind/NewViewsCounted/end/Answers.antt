@@ -1,4 +1,4 @@
-use Rattle.std.proofs.Common.{sym, ap, ◌∙◌, rules}
+use Rattle.std.proofs.Common.{ap, ◌∙◌, rules}
 use Rattle.wire.specs.Places.{behind}
 use Rattle.messages.proofs.Located.{turn_behind}
 use Rattle.messages.proofs.kind.NewViewsCounted.end.Goals as goal
