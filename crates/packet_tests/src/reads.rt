@@ -59,7 +59,7 @@ fn prepare_is_read(rt: HostRuntime) -> Result<(), Fail> {
     assert!(rt; claim.head.round == 9 && claim.head.view == 1 && claim.head.site == 1);
     let fix = Fix::of(claim.value);
     assert!(rt; fix.track == 7 && fix.longitude == 600000 && fix.latitude == 30000000);
-    assert!(rt; tag.place == 28 && tag.bytes == [1u8, 2, 3, 4]);
+    assert!(rt; tag.place == 28 && tag.bytes == [1u8, 2, 3, 4].as_slice());
     Ok(())
 }
 
@@ -75,7 +75,8 @@ fn certificates_have_places(rt: HostRuntime) -> Result<(), Fail> {
     let Ok(Message::Propose { progress, tag, .. }) = read(&PROPOSE, limit) else {
         return Err(Fail::new("no propose"));
     };
-    assert!(rt; tag.bytes == [0xabu8, 0xcd] && progress.place == 36 && progress.bytes.len() == 4);
+    assert!(rt; tag.bytes == [0xabu8, 0xcd].as_slice());
+    assert!(rt; progress.place == 36 && progress.bytes.len() == 4);
     let Ok(
         Message::NewView {
             change,
