@@ -1,5 +1,5 @@
 // Public keys and signatures, taken apart. What they look like is read here and nowhere else.
-ghost use Rattle.std.specs.Prelude.{◌≡◌, ◌<◌, length};
+ghost use Rattle.std.specs.Prelude.{◌≡◌, ◌<◌};
 ghost use Rattle.lms.specs.Lms.{m32_h5, key_of, signature_of};
 ghost use Rattle.lms.specs.Parts.{key_read, KeySized, signature_read, SignatureSized};
 

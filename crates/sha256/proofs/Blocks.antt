@@ -10,11 +10,11 @@ use Rattle.sha256.specs.Laws.{PaddingIsTheShortest}
 -- ---- blocks ----
 
 -- the blocks that a slice is cut into
-get_or-chunked : (n k : ℕ) (xs : List ℕ) (i : ℕ) (d : List ℕ) → i < k → get_or (first_chunks n k xs) i d ≡ take n (drop (n * i) xs)
-get_or-chunked n zero xs i d h = absurd (omega arith)
-get_or-chunked n (suc k) xs zero d h = rw mul-zero refl
-get_or-chunked n (suc k) xs (suc i) d h =
-    let e = get_or-chunked n k (drop n xs) i d (omega arith) in
+get_or-first_chunks : (n k : ℕ) (xs : List ℕ) (i : ℕ) (d : List ℕ) → i < k → get_or (first_chunks n k xs) i d ≡ take n (drop (n * i) xs)
+get_or-first_chunks n zero xs i d h = absurd (omega arith)
+get_or-first_chunks n (suc k) xs zero d h = rw mul-zero refl
+get_or-first_chunks n (suc k) xs (suc i) d h =
+    let e = get_or-first_chunks n k (drop n xs) i d (omega arith) in
     let t = drop-drop (n * i) n xs in
     let m : n * suc i ≡ n + n * i = mul-suc n i ∙ omega arith in
     rw m (cc)
@@ -23,7 +23,7 @@ get_or-chunked n (suc k) xs (suc i) d h =
 pub block_more : (h s t : State) (m : List ℕ) (bs : List (List ℕ)) (d : List ℕ) (i k : ℕ) → bs ≡ first_chunks 64 k m → i < k → s ≡ after i h m → t ≡ compressed s (get_or bs i d) → t ≡ after (i + 1) h m
 unfolding after
 block_more h s t m bs d i k b l e f =
-    let g = get_or-chunked 64 k m i d l in let r : t ≡ after (suc i) h m = cc in rw add-one r
+    let g = get_or-first_chunks 64 k m i d l in let r : t ≡ after (suc i) h m = cc in rw add-one r
 
 -- blocks, and then blocks of what is left
 after_add : (i k : ℕ) (s : State) (m : List ℕ) → after (i + k) s m ≡ after k (after i s m) (drop (64 * i) m)

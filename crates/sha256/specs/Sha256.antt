@@ -1,5 +1,5 @@
 -- SHA-256 as FIPS 180-4 defines it, section by section, over words of 32 bits and over bytes.
-use Rattle.std.specs.Prelude.{ℕ, zero, suc, ◌+◌, ◌-◌, ◌*◌, ◌/◌, ◌%◌, ◌^◌, cond, List, [], ◌∷◌, ◌++◌, length, take, drop, replicate, bit_and, bit_or, bit_xor, nat_lt, slice_index, slice_index_or}
+use Rattle.std.specs.Prelude.{ℕ, zero, suc, ◌+◌, ◌-◌, ◌*◌, ◌/◌, ◌%◌, ◌^◌, cond, List, [], ◌∷◌, ◌++◌, length, take, drop, replicate, bit_and, bit_or, bit_xor, nat_lt, slice_index}
 use Rattle.buffers.specs.Words.{word_from, word_bytes}
 use Rattle.sha256.specs.declared.compression.State.{State}
 
@@ -90,7 +90,7 @@ unfoldable pub W : ℕ → List ℕ → List ℕ → ℕ
 W t m w =
     cond (nat_lt t 16)
     (word_from m (4 * t))
-    (σ1 (slice_index w (t - 2)) ⊞ slice_index_or w (t - 7) 0 ⊞ σ0 (slice_index w (t - 15)) ⊞ slice_index_or w (t - 16) 0)
+    (σ1 (slice_index w (t - 2)) ⊞ slice_index w (t - 7) ⊞ σ0 (slice_index w (t - 15)) ⊞ slice_index w (t - 16))
 
 -- the first t words of the message schedule
 unfoldable pub schedule : ℕ → List ℕ → List ℕ

@@ -1,5 +1,5 @@
 // The hash value, and what one block of 64 bytes makes of it.
-ghost use Rattle.std.specs.Prelude.{◌≡◌, ◌/◌, length};
+ghost use Rattle.std.specs.Prelude.{◌≡◌, ◌/◌};
 ghost use Rattle.sha256.specs.Sha256.{round, added, first_words, schedule, compressed, after_all, digest};
 
 use super::functions::{big_sigma0, big_sigma1, choose, majority, small_sigma0, small_sigma1};

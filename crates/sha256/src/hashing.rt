@@ -1,5 +1,5 @@
 // Messages: padding, and the digest.
-ghost use Rattle.std.specs.Prelude.{◌≡◌, ◌+◌, ◌%◌, ◌^◌, ◌<◌, ◌≤◌, ◌++◌, length};
+ghost use Rattle.std.specs.Prelude.{◌≡◌, ◌+◌, ◌%◌, ◌<◌, ◌≤◌, ◌++◌, length};
 ghost use Rattle.buffers.specs.Lays.{Lays};
 ghost use Rattle.sha256.specs.Sha256.{padding, H0, compressed, after_all, digest, sha256};
 ghost use Rattle.sha256.specs.Laws.{PaddingIsTheShortest};
