@@ -1,8 +1,8 @@
 // Bytes of a lent buffer: words read from it, and pieces laid into it.
 #![tactic(auto)]
 
-ghost use Rattle.std.specs.Prelude.{◌≡◌, ◌+◌, ◌≤◌, length, replicate, Decides};
-ghost use Rattle.buffers.specs.Words.{word_from, word_bytes};
+ghost use Rattle.std.specs.Prelude.{◌≡◌, ℕ, ◌+◌, ◌≤◌, List, ◌++◌, length, replicate, Decides};
+ghost use Rattle.buffers.specs.Words.{word_from, word_bytes, optional};
 ghost use Rattle.buffers.specs.Lays.{Lays};
 
 // The word at a place.
@@ -20,30 +20,75 @@ pub fn same(a: &[u8], b: &[u8]) -> bool
     a == b
 }
 
-// Lays bytes into a buffer at a place, and answers the place behind.
-pub fn put(out: &mut [u8], at: usize, bytes: &[u8]) -> usize
-    requires { at + length bytes.now ≤ length out.old }
-    ensures next { result ≡ at + length bytes.now }
-    ensures after { Lays out.old at bytes.now out.new result }
-{
-    let end = at + bytes.len();
-    out[at..end].copy_from_slice(bytes);
-    end
+// What is laid into a buffer.
+pub trait Piece {
+    ghost bytes: { Self → List ℕ };
+
+    // Lays its bytes into a buffer at a place, and answers the place behind.
+    fn put(self, out: &mut [u8], at: usize) -> usize
+        requires { at + length (bytes self) ≤ length out.old }
+        ensures next { result ≡ at + length (bytes self) }
+        ensures after { Lays out.old at (bytes self) out.new result };
 }
 
-pub fn put_zeros(out: &mut [u8], at: usize, count: usize) -> usize
-    requires { at + count ≤ length out.old }
-    ensures next { result ≡ at + count }
-    ensures after { Lays out.old at (replicate count 0) out.new result }
-{
-    out[at..at + count].fill(0);
-    at + count
+impl Piece for &[u8] {
+    ghost bytes = { λ s. s.now };
+
+    fn put(self, out: &mut [u8], at: usize) -> usize {
+        let end = at + self.len();
+        out[at..end].copy_from_slice(self);
+        end
+    }
 }
 
-pub fn put_word(out: &mut [u8], at: usize, word: u32) -> usize
-    requires { at + 4 ≤ length out.old }
-    ensures next { result ≡ at + 4 }
-    ensures after { Lays out.old at (word_bytes word) out.new result }
-{
-    put(out, at, &word.to_be_bytes())
+impl<const N: usize> Piece for &[u8; N] {
+    ghost bytes = { λ s. s.now };
+
+    fn put(self, out: &mut [u8], at: usize) -> usize {
+        self.as_slice().put(out, at)
+    }
+}
+
+impl Piece for u32 {
+    ghost bytes = { word_bytes };
+
+    fn put(self, out: &mut [u8], at: usize) -> usize {
+        (&self.to_be_bytes()).put(out, at)
+    }
+}
+
+// So many zeros.
+#[derive(Clone, Copy)]
+pub struct Zeros(pub usize);
+
+impl Piece for Zeros {
+    ghost bytes = { λ z. replicate z.0 0 };
+
+    fn put(self, out: &mut [u8], at: usize) -> usize {
+        let end = at + self.0;
+        out[at..end].fill(0);
+        end
+    }
+}
+
+// One piece behind the other.
+impl<A: Piece, B: Piece> Piece for (A, B) {
+    ghost bytes = { λ p. A.bytes p.0 ++ B.bytes p.1 };
+
+    fn put(self, out: &mut [u8], at: usize) -> usize {
+        let next = self.0.put(out, at);
+        self.1.put(out, next)
+    }
+}
+
+// A word that says whether the piece is there, and the piece.
+impl<P: Piece> Piece for Option<P> {
+    ghost bytes = { optional P.bytes };
+
+    fn put(self, out: &mut [u8], at: usize) -> usize {
+        match self {
+            None => 0u32.put(out, at),
+            Some(piece) => (1u32, piece).put(out, at),
+        }
+    }
 }
