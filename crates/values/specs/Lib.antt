@@ -1,3 +1,4 @@
 pub mod Refusals
 pub mod Fleets
 pub mod Fixes
+pub mod Lines

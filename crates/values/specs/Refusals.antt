@@ -1,5 +1,5 @@
 -- Each refusal, as the number and the values that callers are told.
-use Rattle.std.specs.Prelude.{ℕ, List, [], ◌∷◌, Some, None, Ok, Err, Option, Result}
+use Rattle.std.specs.Prelude.{ℕ, List, [], ◌∷◌, ◌++◌, codes, decimal, Some, None, Ok, Err, Option, Result}
 use Rattle.values.specs.declared.refusal.Refusal.{Refusal}
 use Rattle.values.specs.declared.refusal.Refusal.TheVariants.{Limits, Short, Layout, IllegalFix}
 
@@ -39,3 +39,11 @@ answered f (Err e) = Err (refused_as e)
 abbrev pub first_of : List ℕ → Option ℕ
 first_of [] = None
 first_of (x ∷ xs) = Some x
+
+-- how a refusal is printed: its number, and its place if it has one
+abbrev pub place_text : List ℕ → List ℕ
+place_text [] = []
+place_text (x ∷ xs) = codes " at " ++ decimal x
+
+abbrev pub refusal_text : Refused → List ℕ
+refusal_text r = codes "refused with " ++ (decimal r.number ++ place_text r.values)

@@ -2,11 +2,13 @@
 ghost use Rattle.std.specs.Prelude.{◌≡◌};
 ghost use Rattle.values.specs.Refusals.{answered};
 ghost use Rattle.values.specs.Fixes.{angle_of, fix_of, words_of, legal_track, between_z, legal, legal_at};
+ghost use Rattle.values.specs.Lines.{value_bytes, report_bytes};
 
 use super::refusal::Refusal;
+use buffers::Piece;
 
 // Three words as they stand on the line. Records and messages keep these.
-#[derive(Clone, Copy, PartialEq, Eq)]
+#[derive(Clone, Copy, Debug, PartialEq, Eq)]
 pub struct Value {
     pub first: u32,
     pub second: u32,
@@ -14,7 +16,7 @@ pub struct Value {
 }
 
 // A target's track number and position, in 1/10,000 minute, east and north positive.
-#[derive(Clone, Copy, PartialEq, Eq)]
+#[derive(Clone, Copy, Debug, PartialEq, Eq)]
 pub struct Fix {
     pub track: u32,
     pub longitude: i32,
@@ -22,7 +24,7 @@ pub struct Fix {
 }
 
 // What a site reports that it prepared or committed in a view.
-#[derive(Clone, Copy, PartialEq, Eq)]
+#[derive(Clone, Copy, Debug, PartialEq, Eq)]
 pub struct Report {
     pub view: u32,
     pub value: Value,
@@ -30,7 +32,7 @@ pub struct Report {
 
 // How far a coordinate is from the first meridian or the equator: degrees, minutes,
 // and 1/10,000 minutes.
-#[derive(Clone, Copy)]
+#[derive(Clone, Copy, Debug, PartialEq, Eq)]
 pub struct Angle {
     pub degrees: u32,
     pub minutes: u32,
@@ -54,12 +56,37 @@ const MERIDIAN: i32 = 108_000_000;
 
 const POLE: i32 = 54_000_000;
 
+impl From<Value> for Fix {
+    ghost from_gives = { λ value r. r ≡ fix_of value };
+
+    fn from(value: Value) -> Fix {
+        Fix {
+            track: value.first,
+            longitude: value.second.cast_signed(),
+            latitude: value.third.cast_signed(),
+        }
+    }
+}
+
+impl From<Fix> for Value {
+    ghost from_gives = { λ fix r. r ≡ words_of fix };
+
+    fn from(fix: Fix) -> Value {
+        Value {
+            first: fix.track,
+            second: fix.longitude.cast_unsigned(),
+            third: fix.latitude.cast_unsigned(),
+        }
+    }
+}
+
 fn legal_track(track: u32) -> bool
     ensures { result ≡ legal_track track }
 {
     track >= 1 && track <= 999
 }
 
+// As plain as a range's `contains`, which would be stated of `partial_cmp`.
 fn between(low: i32, high: i32, z: i32) -> bool
     ensures { result ≡ between_z low high z }
 {
@@ -67,26 +94,6 @@ fn between(low: i32, high: i32, z: i32) -> bool
 }
 
 impl Fix {
-    pub fn of(value: Value) -> Fix
-        ensures { result ≡ fix_of value }
-    {
-        Fix {
-            track: value.first,
-            longitude: value.second.cast_signed(),
-            latitude: value.third.cast_signed(),
-        }
-    }
-
-    pub fn words(&self) -> Value
-        ensures { result ≡ words_of self.now }
-    {
-        Value {
-            first: self.track,
-            second: self.longitude.cast_unsigned(),
-            third: self.latitude.cast_unsigned(),
-        }
-    }
-
     pub fn is_legal(&self) -> bool
         ensures { result ≡ legal self.now }
     {
@@ -101,9 +108,27 @@ impl Value {
     pub fn test(&self, place: usize) -> Result<(), Refusal>
         ensures { answered (λ u. u) result ≡ legal_at self.now place }
     {
-        if !Fix::of(*self).is_legal() {
+        if !Fix::from(*self).is_legal() {
             return Err(Refusal::IllegalFix { place });
         }
         Ok(())
+    }
+}
+
+// The three words, one behind the other.
+impl Piece for Value {
+    ghost bytes = { value_bytes };
+
+    fn put(self, out: &mut [u8], at: usize) -> usize {
+        (self.first, (self.second, self.third)).put(out, at)
+    }
+}
+
+// The view, and the value.
+impl Piece for Report {
+    ghost bytes = { report_bytes };
+
+    fn put(self, out: &mut [u8], at: usize) -> usize {
+        (self.view, self.value).put(out, at)
     }
 }

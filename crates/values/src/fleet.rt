@@ -8,7 +8,7 @@ use super::refusal::Refusal;
 
 // The sites of a harbour: at most `f` of them break the rules, and `t` may stay away
 // from a fast decision.
-#[derive(Clone, Copy)]
+#[derive(Clone, Copy, Debug, PartialEq, Eq)]
 pub struct Fleet {
     f: u32,
     t: u32,
@@ -72,7 +72,7 @@ impl Fleet {
 }
 
 // Views are counted from 1.
-#[derive(Clone, Copy)]
+#[derive(Clone, Copy, Debug, PartialEq, Eq)]
 pub struct View {
     number: u32,
     ghost counted: { 1 ≤ number },
@@ -96,7 +96,7 @@ impl View {
 }
 
 // How many bytes a tag may have at most.
-#[derive(Clone, Copy)]
+#[derive(Clone, Copy, Debug, PartialEq, Eq)]
 pub struct TagLimit {
     bytes: usize,
     ghost legal: { (4 ≤ bytes) × (bytes ≤ 2048) × (bytes % 4 ≡ 0) },

@@ -1,8 +1,11 @@
 // Why a call refuses its input. A refused call changes nothing.
-ghost use Rattle.std.specs.Prelude.{◌≡◌};
-ghost use Rattle.values.specs.Refusals.{refused_as, first_of};
+ghost use Rattle.std.specs.Prelude.{◌≡◌, Some};
+ghost use Rattle.values.specs.Refusals.{refused_as, first_of, refusal_text};
 
-#[derive(Clone, Copy, PartialEq, Eq, Debug)]
+use std::error::Error;
+use std::fmt;
+
+#[derive(Clone, Copy, Debug, PartialEq, Eq)]
 pub enum Refusal {
     // 1: outside the limits of a fleet or of a tag
     Limits,
@@ -35,3 +38,17 @@ impl Refusal {
         }
     }
 }
+
+impl fmt::Display for Refusal {
+    ghost output = { λ refusal. Some (refusal_text (refused_as refusal)) };
+
+    fn fmt<W: fmt::Write>(&self, f: &mut fmt::Formatter<W>) -> fmt::Result {
+        let number = self.number();
+        match self.place() {
+            Some(place) => write!(f, "refused with {number} at {place}"),
+            None => write!(f, "refused with {number}"),
+        }
+    }
+}
+
+impl Error for Refusal {}
