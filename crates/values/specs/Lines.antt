@@ -11,5 +11,5 @@ abbrev pub value_bytes : Value → List ℕ
 value_bytes v = three_bytes v.first v.second v.third
 
 -- the view, and the value
-abbrev pub report_bytes : Report → List ℕ
-report_bytes r = word_bytes r.view ++ value_bytes r.value
+abbrev pub viewed_bytes : Report → List ℕ
+viewed_bytes r = word_bytes r.view ++ value_bytes r.value

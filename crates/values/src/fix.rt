@@ -2,7 +2,7 @@
 ghost use Rattle.std.specs.Prelude.{◌≡◌};
 ghost use Rattle.values.specs.Refusals.{answered};
 ghost use Rattle.values.specs.Fixes.{angle_of, fix_of, words_of, legal_track, between_z, legal, legal_at};
-ghost use Rattle.values.specs.Lines.{value_bytes, report_bytes};
+ghost use Rattle.values.specs.Lines.{value_bytes, viewed_bytes};
 
 use super::refusal::Refusal;
 use buffers::Piece;
@@ -126,7 +126,7 @@ impl Piece for Value {
 
 // The view, and the value.
 impl Piece for Report {
-    ghost bytes = { report_bytes };
+    ghost bytes = { viewed_bytes };
 
     fn put(self, out: &mut [u8], at: usize) -> usize {
         (self.view, self.value).put(out, at)

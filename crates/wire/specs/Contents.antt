@@ -1,29 +1,22 @@
 -- What packets hold, and the bytes that write it: each content has one byte string.
 use Rattle.std.specs.Prelude.{ℕ, ◌+◌, ◌-◌, ◌*◌, ◌/◌, List, [], ◌∷◌, ◌++◌, length, replicate, Some, None, Option}
-use Rattle.values.specs.declared.fix.Value.{Value}
+use Rattle.buffers.specs.Words.{word_bytes, optional}
 use Rattle.values.specs.declared.fix.Report.{Report}
+use Rattle.values.specs.Lines.{three_bytes, value_bytes, viewed_bytes}
 use Rattle.wire.specs.declared.statement.Head.{Head}
 use Rattle.wire.specs.declared.statement.Claim.{Claim}
 use Rattle.wire.specs.declared.statement.ViewChange.{ViewChange}
 use Rattle.wire.specs.declared.statement.Statement.{Statement}
 use Rattle.wire.specs.declared.statement.Statement.TheVariants.{Propose, Prepare, Commit, NewView}
-use Rattle.wire.specs.Words.{word_bytes}
 
 -- ---- statements ----
-
-abbrev pub three_bytes : ℕ → ℕ → ℕ → List ℕ
-three_bytes x y z = word_bytes x ++ (word_bytes y ++ word_bytes z)
-
-abbrev pub value_bytes : Value → List ℕ
-value_bytes v = three_bytes v.first v.second v.third
 
 abbrev pub head_bytes : Head → List ℕ
 head_bytes h = three_bytes h.round h.view h.site
 
 -- a bool, and behind a 1 the view and the value
 abbrev pub report_bytes : Option Report → List ℕ
-report_bytes None = word_bytes 0
-report_bytes (Some r) = word_bytes 1 ++ (word_bytes r.view ++ value_bytes r.value)
+report_bytes r = optional viewed_bytes r
 
 abbrev pub claim_bytes : Claim → List ℕ
 claim_bytes c = head_bytes c.head ++ value_bytes c.value

@@ -1,5 +1,6 @@
 -- What stands at a place of a packet, and the earliest fault of its layout.
-use Rattle.std.specs.Prelude.{ℕ, zero, suc, ◌+◌, ◌-◌, Bool, true, cond, ◌&&◌, List, [], ◌∷◌, length, take, drop, Some, None, Ok, Option, Result, ◌==◌, nat_le}
+use Rattle.std.specs.Prelude.{ℕ, zero, suc, ◌+◌, ◌-◌, Bool, cond, ◌&&◌, List, [], ◌∷◌, length, take, drop, Some, None, Ok, Option, Result, ◌==◌, nat_le}
+use Rattle.std.specs.List.{list_all}
 use Rattle.values.specs.declared.fix.Value.{Value}
 use Rattle.values.specs.declared.fix.Report.{Report}
 use Rattle.wire.specs.declared.words.Malformed.{Malformed}
@@ -52,8 +53,7 @@ change_at b at =
 -- ---- tags and certificates ----
 
 abbrev pub zeros : List ℕ → Bool
-zeros [] = true
-zeros (x ∷ xs) = x == 0 && zeros xs
+zeros b = list_all (λ x. x == 0) b
 
 -- every fault of a tag is at its length word
 abbrev pub tag_by : ℕ → List ℕ → ℕ → ℕ → Result (List ℕ × ℕ) Malformed

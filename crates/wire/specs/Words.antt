@@ -1,5 +1,6 @@
--- Words of the line: four bytes, the highest first; and how readings follow one another.
-use Rattle.std.specs.Prelude.{ℕ, ◌+◌, ◌*◌, ◌/◌, ◌%◌, cond, List, [], ◌∷◌, length, Ok, Err, Result, nat_le, slice_index}
+-- Words of a packet, and how readings follow one another.
+use Rattle.std.specs.Prelude.{ℕ, ◌+◌, cond, List, length, Ok, Err, Result, nat_le}
+use Rattle.buffers.specs.Words.{word_from}
 use Rattle.wire.specs.declared.words.Malformed.{Malformed}
 
 -- what a reading answers goes on to the next, and a fault ends it
@@ -12,11 +13,4 @@ fault at = Err (record { place = at })
 
 -- the word that stands at a place of b, or the fault that it is cut
 unfoldable pub word_at : List ℕ → ℕ → Result ℕ Malformed
-word_at b at =
-    cond (nat_le (at + 4) (length b))
-    (Ok (slice_index b at * 16777216 + slice_index b (at + 1) * 65536 + slice_index b (at + 2) * 256 + slice_index b (at + 3)))
-    (fault at)
-
--- the bytes that write a word
-abbrev pub word_bytes : ℕ → List ℕ
-word_bytes w = w / 16777216 % 256 ∷ w / 65536 % 256 ∷ w / 256 % 256 ∷ w % 256 ∷ []
+word_at b at = cond (nat_le (at + 4) (length b)) (Ok (word_from b at)) (fault at)

@@ -1,4 +1,5 @@
-// What stands in a packet: words, tags, statements and commit certificates, read from lent bytes.
+// What stands in a packet: words, tags, statements and commit certificates, read from lent bytes
+// and written into them.
 #![tactic(auto)]
 
 mod certificate;
@@ -6,7 +7,7 @@ mod statement;
 mod tag;
 mod words;
 
-pub use certificate::{Counted, Entries, Entry, certificate_end, count_at, counted_end, entry_at};
-pub use statement::{Claim, Head, Statement, ViewChange, claim_at, view_change_at};
-pub use tag::{Part, pad, tag_at};
-pub use words::{Malformed, word_at};
+pub use certificate::{Counted, Entries, Entry};
+pub use statement::{Claim, Head, Statement, ViewChange};
+pub use tag::{Part, pad};
+pub use words::{Field, Malformed, Packet};

@@ -1,9 +1,10 @@
 // Statements: what a site says, and vouches for with its tag.
-ghost use Rattle.std.specs.Prelude.{◌≡◌, ◌+◌, ◌≤◌, length, IfOk, OnOk};
-ghost use Rattle.wire.specs.Places.{Inside};
-ghost use Rattle.wire.specs.Layout.{value_at, head_at, report_at, claim_at, change_at};
+ghost use Rattle.std.specs.Prelude.{◌≡◌, ◌+◌, ◌≤◌, length, OnOk};
+ghost use Rattle.wire.specs.Contents.{head_bytes, claim_bytes, change_bytes, report_bytes, statement_bytes};
+ghost use Rattle.wire.specs.Layout.{three_at, value_at, head_at, report_at, claim_at, change_at};
 
-use super::words::{Malformed, word_at};
+use super::words::{Field, Malformed, Packet};
+use buffers::Piece;
 use values::{Report, Value};
 
 // The three words behind the kind word of every statement.
@@ -37,13 +38,24 @@ pub enum Statement {
     NewView(ViewChange),
 }
 
-fn value_at(packet: &[u8], at: usize) -> Result<Value, Malformed>
-    ensures value { result ≡ value_at packet.now at }
-    ensures within { OnOk result (at + 12 ≤ length packet.now) }
+// ---- reading ----
+
+// Three words, one behind the other.
+fn three_at(packet: Packet<'_>, at: usize) -> Result<(u32, u32, u32), Malformed>
+    ensures value { result ≡ three_at (λ x y z. (x, y, z)) packet.entry.bytes.now at }
+    ensures within { OnOk result (at + 12 ≤ length packet.entry.bytes.now) }
 {
-    let first = word_at(packet, at)?;
-    let second = word_at(packet, at + 4)?;
-    let third = word_at(packet, at + 8)?;
+    let first = packet.word_at(at)?;
+    let second = packet.word_at(at + 4)?;
+    let third = packet.word_at(at + 8)?;
+    Ok((first, second, third))
+}
+
+fn value_at(packet: Packet<'_>, at: usize) -> Result<Value, Malformed>
+    ensures value { result ≡ value_at packet.entry.bytes.now at }
+    ensures within { OnOk result (at + 12 ≤ length packet.entry.bytes.now) }
+{
+    let (first, second, third) = three_at(packet, at)?;
     Ok(Value {
         first,
         second,
@@ -51,56 +63,108 @@ fn value_at(packet: &[u8], at: usize) -> Result<Value, Malformed>
     })
 }
 
-fn head_at(packet: &[u8], at: usize) -> Result<Head, Malformed>
-    ensures value { result ≡ head_at packet.now at }
-    ensures within { OnOk result (at + 12 ≤ length packet.now) }
+fn head_at(packet: Packet<'_>, at: usize) -> Result<Head, Malformed>
+    ensures value { result ≡ head_at packet.entry.bytes.now at }
+    ensures within { OnOk result (at + 12 ≤ length packet.entry.bytes.now) }
 {
-    let round = word_at(packet, at)?;
-    let view = word_at(packet, at + 4)?;
-    let site = word_at(packet, at + 8)?;
+    let (round, view, site) = three_at(packet, at)?;
     Ok(Head { round, view, site })
 }
 
-// A report that may be absent, and the place behind it.
-fn report_at(packet: &[u8], at: usize) -> Result<(Option<Report>, usize), Malformed>
-    ensures value { result ≡ report_at packet.now at }
-    ensures within { IfOk result (λ p. Inside at p.1 packet.now) }
-{
-    match word_at(packet, at)? {
-        0 => Ok((None, at + 4)),
-        1 => {
-            let view = word_at(packet, at + 4)?;
-            let value = value_at(packet, at + 8)?;
-            Ok((Some(Report { view, value }), at + 20))
+// A word that says whether a report is there, and the report.
+impl Field for Option<Report> {
+    ghost reads = { report_at };
+
+    fn read(packet: Packet<'_>, at: usize) -> Result<(Option<Report>, usize), Malformed> {
+        match packet.word_at(at)? {
+            0 => Ok((None, at + 4)),
+            1 => {
+                let view = packet.word_at(at + 4)?;
+                let value = value_at(packet, at + 8)?;
+                Ok((Some(Report { view, value }), at + 20))
+            }
+            _ => Err(Malformed { place: at }),
         }
-        _ => Err(Malformed { place: at }),
     }
 }
 
-// The claim behind a kind word, and the place behind it.
-pub fn claim_at(packet: &[u8], at: usize) -> Result<(Claim, usize), Malformed>
-    ensures value { result ≡ claim_at packet.now at }
-    ensures within { IfOk result (λ p. Inside at p.1 packet.now) }
-{
-    let head = head_at(packet, at)?;
-    let value = value_at(packet, at + 12)?;
-    Ok((Claim { head, value }, at + 24))
+// What stands behind the kind word of a claim.
+impl Field for Claim {
+    ghost reads = { claim_at };
+
+    fn read(packet: Packet<'_>, at: usize) -> Result<(Claim, usize), Malformed> {
+        let head = head_at(packet, at)?;
+        let value = value_at(packet, at + 12)?;
+        Ok((Claim { head, value }, at + 24))
+    }
 }
 
-// The view change behind a kind word, and the place behind it.
-pub fn view_change_at(packet: &[u8], at: usize) -> Result<(ViewChange, usize), Malformed>
-    ensures value { result ≡ change_at packet.now at }
-    ensures within { IfOk result (λ p. Inside at p.1 packet.now) }
+// What stands behind the kind word of a new-view.
+impl Field for ViewChange {
+    ghost reads = { change_at };
+
+    fn read(packet: Packet<'_>, at: usize) -> Result<(ViewChange, usize), Malformed> {
+        let head = head_at(packet, at)?;
+        let (prepared, next) = Field::read(packet, at + 12)?;
+        let (committed, end) = Field::read(packet, next)?;
+        Ok((
+            ViewChange {
+                head,
+                prepared,
+                committed,
+            },
+            end,
+        ))
+    }
+}
+
+// ---- writing ----
+
+impl Piece for Head {
+    ghost bytes = { head_bytes };
+
+    fn put(self, out: &mut [u8], at: usize) -> usize {
+        (self.round, (self.view, self.site)).put(out, at)
+    }
+}
+
+impl Piece for Claim {
+    ghost bytes = { claim_bytes };
+
+    fn put(self, out: &mut [u8], at: usize) -> usize {
+        (self.head, self.value).put(out, at)
+    }
+}
+
+impl Piece for ViewChange {
+    ghost bytes = { change_bytes };
+
+    fn put(self, out: &mut [u8], at: usize) -> usize {
+        (self.head, (self.prepared, self.committed)).put(out, at)
+    }
+}
+
+fn report_length(report: Option<Report>) -> usize
+    ensures value { result ≡ length (report_bytes report) }
+    ensures bound { result ≤ 20 }
 {
-    let head = head_at(packet, at)?;
-    let (prepared, next) = report_at(packet, at + 12)?;
-    let (committed, end) = report_at(packet, next)?;
-    Ok((
-        ViewChange {
-            head,
-            prepared,
-            committed,
-        },
-        end,
-    ))
+    match report {
+        None => 4,
+        Some(_) => 20,
+    }
+}
+
+impl Statement {
+    // How many bytes it takes.
+    pub fn length(self) -> usize
+        ensures value { result ≡ length (statement_bytes self) }
+        ensures bound { result ≤ 56 }
+    {
+        match self {
+            Statement::Propose(_) | Statement::Prepare(_) | Statement::Commit(_) => 28,
+            Statement::NewView(change) => 16
+                + report_length(change.prepared)
+                + report_length(change.committed),
+        }
+    }
 }

@@ -4,8 +4,7 @@ ghost use Rattle.wire.specs.Contents.{padded};
 ghost use Rattle.wire.specs.Layout.{zeros, tag_at};
 ghost use Rattle.wire.specs.Places.{Inside, tag_read};
 
-use super::words::{Malformed, word_at};
-use values::TagLimit;
+use super::words::{Malformed, Packet};
 
 // A part of a packet, and its place there: of a tag the place of its length word,
 // of an attachment that of its first byte.
@@ -20,40 +19,37 @@ pub fn pad(len: usize) -> usize
     requires { len + 3 < 2 ^ 64 }
     ensures { result ≡ padded len }
 {
-    (len + 3) / 4 * 4
+    len.next_multiple_of(4)
 }
 
 fn all_zero(bytes: &[u8]) -> bool
     ensures { result ≡ zeros bytes.now }
 {
-    for b in bytes {
-        if *b != 0 {
-            return false;
-        }
-    }
-    true
+    bytes.iter().all(|b| *b == 0)
 }
 
-// The tag at a place, and the place behind it.
-pub fn tag_at(packet: &[u8], at: usize, limit: TagLimit) -> Result<(Part<'_>, usize), Malformed>
-    ensures value { tag_read result ≡ tag_at limit.bytes packet.now at }
-    ensures within { IfOk result (λ p. Inside at p.1 packet.now) }
-    ensures place { IfOk result (λ p. p.0.place ≡ at) }
-{
-    let len = word_at(packet, at)? as usize;
-    let start = at + 4;
-    let filled = pad(len);
-    if len > limit.bytes()
-        || filled > packet.len() - start
-        || !all_zero(&packet[start + len..start + filled])
+impl<'a> Packet<'a> {
+    // The tag at a place, and the place behind it.
+    pub fn tag_at(self, at: usize) -> Result<(Part<'a>, usize), Malformed>
+        ensures value { tag_read result ≡ tag_at self.entry.limit.bytes self.entry.bytes.now at }
+        ensures within { IfOk result (λ p. Inside at p.1 self.entry.bytes.now) }
+        ensures place { IfOk result (λ p. p.0.place ≡ at) }
     {
-        return Err(Malformed { place: at });
+        let len = self.word_at(at)? as usize;
+        let start = at + 4;
+        let filled = pad(len);
+        if len > self.limit.bytes()
+            || filled > self.bytes.len() - start
+            || !all_zero(&self.bytes[start + len..start + filled])
+        {
+            return Err(Malformed { place: at });
+        }
+        Ok((
+            Part {
+                place: at,
+                bytes: &self.bytes[start..start + len],
+            },
+            start + filled,
+        ))
     }
-    Ok((
-        Part {
-            place: at,
-            bytes: &packet[start..start + len],
-        },
-        start + filled,
-    ))
 }

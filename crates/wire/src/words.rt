@@ -1,12 +1,15 @@
-// Words of the line: 32 bits, the highest byte first.
-ghost use Rattle.std.specs.Prelude.{◌≡◌, ◌+◌, ◌≤◌, length, OnOk};
+// Packets in lent bytes, and their words: 32 bits, the highest byte first.
+ghost use Rattle.std.specs.Prelude.{◌≡◌, ℕ, ◌+◌, ◌≤◌, List, length, IfOk, Result, OnOk};
 ghost use Rattle.values.specs.declared.refusal.Refusal.TheVariants.{Layout};
+ghost use Rattle.wire.specs.declared.words.Malformed.{Malformed};
 ghost use Rattle.wire.specs.Words.{word_at};
+ghost use Rattle.wire.specs.Places.{Inside};
 
-use values::Refusal;
+use buffers::word;
+use values::{Refusal, TagLimit};
 
 // The layout is broken at a place: refusal number 3.
-#[derive(Clone, Copy)]
+#[derive(Clone, Copy, Debug, PartialEq, Eq)]
 pub struct Malformed {
     pub place: usize,
 }
@@ -19,13 +22,33 @@ impl From<Malformed> for Refusal {
     }
 }
 
-// The word at a place.
-pub fn word_at(packet: &[u8], at: usize) -> Result<u32, Malformed>
-    ensures value { result ≡ word_at packet.now at }
-    ensures within { OnOk result (at + 4 ≤ length packet.now) }
-{
-    if packet.len() < 4 || at > packet.len() - 4 {
-        return Err(Malformed { place: at });
+// The bytes of a packet or a draft, and how long a tag in them may be.
+#[derive(Clone, Copy)]
+pub struct Packet<'a> {
+    pub bytes: &'a [u8],
+    pub limit: TagLimit,
+}
+
+impl Packet<'_> {
+    // The word at a place.
+    #[tactic(auto, unfolding(crate::specs::Words::word_at))]
+    pub fn word_at(self, at: usize) -> Result<u32, Malformed>
+        ensures value { result ≡ word_at self.entry.bytes.now at }
+        ensures within { OnOk result (at + 4 ≤ length self.entry.bytes.now) }
+    {
+        if self.bytes.len() < 4 || at > self.bytes.len() - 4 {
+            return Err(Malformed { place: at });
+        }
+        Ok(word(self.bytes, at))
     }
-    Ok(u32::from_be_bytes([packet[at], packet[at + 1], packet[at + 2], packet[at + 3]]))
+}
+
+// What stands at a place of a packet, whatever the tag limit is.
+pub trait Field: Sized {
+    ghost reads: { List ℕ → ℕ → Result (Self × ℕ) Malformed };
+
+    // What stands at a place, and the place behind it.
+    fn read(packet: Packet<'_>, at: usize) -> Result<(Self, usize), Malformed>
+        ensures value { result ≡ reads packet.entry.bytes.now at }
+        ensures within { IfOk result (λ p. Inside at p.1 packet.entry.bytes.now) };
 }
