@@ -1,5 +1,5 @@
 -- A content read from a packet, and the parts of the packet that hold it.
-use Rattle.std.proofs.Common.{◌≡◌, ℕ, ◌+◌, ◌-◌, List, [], length, take, drop, Some, None, Ok, Option, sym, ap, ◌∙◌, arith}
+use Rattle.std.proofs.Common.{◌≡◌, ℕ, ◌+◌, ◌-◌, List, length, take, drop, Some, None, Ok, Option, sym, ap, ◌∙◌, arith}
 use Rattle.std.proofs.lemmas.List.{take_rest, drop_all}
 use Rattle.values.specs.declared.fix.Report.{Report}
 use Rattle.wire.specs.declared.statement.Claim.{Claim}
@@ -9,18 +9,10 @@ use Rattle.wire.specs.declared.statement.Statement.TheVariants.{Propose, Prepare
 use Rattle.wire.specs.Contents.{Certified, Turn, Content, propose, prepare, commit, new_view, reported, change_bytes, statement_bytes, tag_bytes}
 use Rattle.wire.specs.Layout.{claim_at, change_at, tag_at, votes_at, certified_at, progress_at, turn_at, nothing_at, wholly, propose_of, prepare_of, commit_of, new_view_of}
 use Rattle.wire.specs.Places.{behind}
-use Rattle.messages.specs.Parts.{map_ok, Pieces, pieced, parts_at, rest_at, locate}
+use Rattle.messages.specs.Parts.{map_ok, under, bare, Pieces, pieced, parts_at, rest_at, locate}
 use Rattle.wire.proofs.Results.{bind_ok, ok_same}
 use Rattle.wire.proofs.Lengths.{tag_read_lem, claim_ends, change_ends}
 use Rattle.messages.proofs.Envelopes.{envelope_on, envelope_behind, envelope_same}
-
--- the parts of a statement's message
-abbrev pub under : {S : Type 0} → (S → Statement) → Pieces S → Pieces Statement
-under say p = record { statement = say p.statement; tag = p.tag; attachment = p.attachment }
-
--- those of a prepare, which attaches nothing
-abbrev pub bare : Pieces Claim → Pieces Statement
-bare p = record { statement = Prepare p.statement; tag = p.tag; attachment = record { place = p.tag.place + length (tag_bytes p.tag.bytes); bytes = [] } }
 
 -- the parts that lie behind a statement of n bytes and a tag up to k
 abbrev pieces : List ℕ → Statement → ℕ → List ℕ → ℕ → ℕ → Pieces Statement

@@ -2,6 +2,7 @@
 use Rattle.std.specs.Prelude.{ℕ, ◌+◌, ◌-◌, cond, List, [], length, take, drop, Some, None, Ok, Err, Option, Result, ◌==◌}
 use Rattle.wire.specs.declared.words.Malformed.{Malformed}
 use Rattle.wire.specs.declared.tag.Part.{Part}
+use Rattle.wire.specs.declared.statement.Claim.{Claim}
 use Rattle.wire.specs.declared.statement.Statement.{Statement}
 use Rattle.wire.specs.declared.statement.Statement.TheVariants as statement
 use Rattle.wire.specs.Words.{bind}
@@ -70,6 +71,14 @@ told (message.Propose claim tag progress) = record { statement = statement.Propo
 told (message.Prepare claim tag) = record { statement = statement.Prepare claim; tag = cut_of tag; attachment = record { place = tag.place + length (tag_bytes tag.bytes.now); bytes = [] } }
 told (message.Commit claim tag certificate) = record { statement = statement.Commit claim; tag = cut_of tag; attachment = cut_of certificate }
 told (message.NewView change tag certificate) = record { statement = statement.NewView change; tag = cut_of tag; attachment = cut_of certificate }
+
+-- the parts of a statement's message
+abbrev pub under : {S : Type 0} → (S → Statement) → Pieces S → Pieces Statement
+under say p = record { statement = say p.statement; tag = p.tag; attachment = p.attachment }
+
+-- those of a prepare, which attaches nothing
+abbrev pub bare : Pieces Claim → Pieces Statement
+bare p = record { statement = statement.Prepare p.statement; tag = p.tag; attachment = record { place = p.tag.place + length (tag_bytes p.tag.bytes); bytes = [] } }
 
 -- the rest of a packet from a place on
 abbrev pub rest_at : List ℕ → ℕ → Cut

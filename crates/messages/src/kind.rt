@@ -1,52 +1,15 @@
 // The kinds of messages, behind one reading interface.
-ghost use Rattle.std.specs.Prelude.{◌≡◌, ℕ, ◌+◌, ◌≤◌, List, length, IfOk, Some, Ok, Result};
+ghost use Rattle.std.specs.Prelude.{◌≡◌, ℕ, ◌+◌, ◌≤◌, List, length, IfOk, Some, Ok, Result, refl};
 ghost use Rattle.wire.specs.declared.words.Malformed.{Malformed};
-ghost use Rattle.wire.specs.Layout.{claim_at, change_at, votes_at, certified_at, progress_at, turn_at};
+ghost use Rattle.wire.specs.declared.statement.Statement.{Statement};
+ghost use Rattle.wire.specs.declared.statement.Statement.TheVariants as statement;
+ghost use Rattle.wire.specs.Layout.{votes_at, certified_at, progress_at, turn_at};
 ghost use Rattle.wire.specs.Places.{Inside, behind};
-ghost use Rattle.messages.specs.Parts.{envelope_read, parts_at, shortest_of};
+ghost use Rattle.messages.specs.Parts.{Pieces, pieces_of, envelope_read, parts_at, shortest_of, told, under, bare};
 
-use values::{Report, TagLimit};
-use wire::{
-    Claim, Counted, Malformed, Part, ViewChange, certificate_end, claim_at, counted_end, tag_at,
-    view_change_at, word_at,
-};
-
-// A kind of message: its number, its shortest length, the record of its statement,
-// and what it attaches.
-pub trait Kind {
-    type Record: Copy;
-
-    const NUMBER: u32;
-
-    const SHORTEST: usize;
-
-    ghost number: { ℕ };
-
-    ghost states: { List ℕ → ℕ → Result (Self.Record × ℕ) Malformed };
-
-    ghost attaches: { ℕ → List ℕ → Self.Record → ℕ → Result ℕ Malformed };
-
-    fn kind_number() -> u32
-        ensures { result ≡ number };
-
-    fn shortest_length() -> usize
-        ensures { Some result ≡ shortest_of number };
-
-    // The statement behind a kind word, and the place behind it.
-    fn statement_at(packet: &[u8], at: usize) -> Result<(Self::Record, usize), Malformed>
-        ensures value { result ≡ states packet.now at }
-        ensures within { IfOk result (λ p. Inside at p.1 packet.now) };
-
-    // The place behind what a statement attaches.
-    fn attachment_end(
-        said: Self::Record,
-        packet: &[u8],
-        at: usize,
-        limit: TagLimit,
-    ) -> Result<usize, Malformed>
-        ensures value { result ≡ attaches limit.bytes packet.now said at }
-        ensures within { IfOk result (λ e. (at ≤ length packet.now → Inside at e packet.now)) };
-}
+use super::message::Message;
+use values::TagLimit;
+use wire::{Claim, Counted, Field, Malformed, Packet, Part, ViewChange};
 
 // A message of one kind, taken apart.
 #[derive(Drop)]
@@ -56,24 +19,52 @@ pub struct Envelope<'a, R> {
     pub attachment: Part<'a>,
 }
 
+// A kind of message: the record of its statement, its number, its shortest length,
+// and what it attaches.
+pub trait Kind {
+    type Record: Field + Copy;
+
+    const NUMBER: u32;
+
+    const SHORTEST: usize;
+
+    ghost NUMBER: { ℕ };
+
+    ghost SHORTEST: { ℕ };
+
+    ghost attaches: { ℕ → List ℕ → Self.Record → ℕ → Result ℕ Malformed };
+
+    ghost tells: { Pieces Self.Record → Pieces Statement };
+
+    // The place behind what a statement attaches.
+    fn attachment_end(said: Self::Record, packet: Packet<'_>, at: usize) -> Result<usize, Malformed>
+        ensures value { result ≡ attaches packet.entry.limit.bytes packet.entry.bytes.now said at }
+        ensures within { IfOk result (λ e. (at ≤ length packet.entry.bytes.now → Inside at e packet.entry.bytes.now)) };
+
+    // The message that the parts are.
+    fn message<'a>(parts: Envelope<'a, Self::Record>) -> Message<'a>
+        ensures { told result ≡ tells (pieces_of parts.entry) };
+
+    ghost is_shortest: { Some SHORTEST ≡ shortest_of NUMBER };
+}
+
 // The message of one kind at a place, and the place behind it.
 pub fn envelope_at<K: Kind>(
-    packet: &[u8],
+    packet: Packet<'_>,
     at: usize,
-    limit: TagLimit,
 ) -> Result<(Envelope<'_, K::Record>, usize), Malformed>
-    ensures value { envelope_read result ≡ parts_at K.Kind.number (K.Kind.states packet.now) (K.Kind.attaches limit.bytes packet.now) limit.bytes packet.now at }
-    ensures within { IfOk result (λ p. Inside at p.1 packet.now) }
+    ensures value { envelope_read result ≡ parts_at K.Kind.NUMBER (K.Record.reads packet.entry.bytes.now) (K.Kind.attaches packet.entry.limit.bytes packet.entry.bytes.now) packet.entry.limit.bytes packet.entry.bytes.now at }
+    ensures within { IfOk result (λ p. Inside at p.1 packet.entry.bytes.now) }
 {
-    if word_at(packet, at)? != K::kind_number() {
+    if packet.word_at(at)? != K::NUMBER {
         return Err(Malformed { place: at });
     }
-    let (statement, next) = K::statement_at(packet, at + 4)?;
-    let (tag, start) = tag_at(packet, next, limit)?;
-    let end = K::attachment_end(statement, packet, start, limit)?;
+    let (statement, next) = K::Record::read(packet, at + 4)?;
+    let (tag, start) = packet.tag_at(next)?;
+    let end = K::attachment_end(statement, packet, start)?;
     let attachment = Part {
         place: start,
-        bytes: &packet[start..end],
+        bytes: &packet.bytes[start..end],
     };
     Ok((
         Envelope {
@@ -100,32 +91,28 @@ impl Kind for Prepare {
 
     const SHORTEST: usize = 32;
 
-    ghost number = { 2 };
+    ghost NUMBER = { 2 };
 
-    ghost states = { claim_at };
+    ghost SHORTEST = { 32 };
 
     ghost attaches = { λ limit b c at. Ok at };
 
-    fn kind_number() -> u32 {
-        Self::NUMBER
-    }
+    ghost tells = { bare };
 
-    fn shortest_length() -> usize {
-        Self::SHORTEST
-    }
-
-    fn statement_at(packet: &[u8], at: usize) -> Result<(Claim, usize), Malformed> {
-        claim_at(packet, at)
-    }
-
-    fn attachment_end(
-        _said: Claim,
-        _packet: &[u8],
-        at: usize,
-        _limit: TagLimit,
-    ) -> Result<usize, Malformed> {
+    fn attachment_end(_said: Claim, _packet: Packet<'_>, at: usize) -> Result<usize, Malformed> {
         Ok(at)
     }
+
+    fn message<'a>(parts: Envelope<'a, Claim>) -> Message<'a>
+        ensures { told result ≡ bare (pieces_of parts.entry) }
+    {
+        Message::Prepare {
+            claim: parts.statement,
+            tag: parts.tag,
+        }
+    }
+
+    ghost is_shortest = { refl };
 }
 
 impl Kind for Commit {
@@ -135,32 +122,29 @@ impl Kind for Commit {
 
     const SHORTEST: usize = 36;
 
-    ghost number = { 3 };
+    ghost NUMBER = { 3 };
 
-    ghost states = { claim_at };
+    ghost SHORTEST = { 36 };
 
     ghost attaches = { λ limit b c at. behind (votes_at limit b at) };
 
-    fn kind_number() -> u32 {
-        Self::NUMBER
+    ghost tells = { under statement.Commit };
+
+    fn attachment_end(_said: Claim, packet: Packet<'_>, at: usize) -> Result<usize, Malformed> {
+        packet.certificate_end(at)
     }
 
-    fn shortest_length() -> usize {
-        Self::SHORTEST
+    fn message<'a>(parts: Envelope<'a, Claim>) -> Message<'a>
+        ensures { told result ≡ under statement.Commit (pieces_of parts.entry) }
+    {
+        Message::Commit {
+            claim: parts.statement,
+            tag: parts.tag,
+            certificate: parts.attachment,
+        }
     }
 
-    fn statement_at(packet: &[u8], at: usize) -> Result<(Claim, usize), Malformed> {
-        claim_at(packet, at)
-    }
-
-    fn attachment_end(
-        _said: Claim,
-        packet: &[u8],
-        at: usize,
-        limit: TagLimit,
-    ) -> Result<usize, Malformed> {
-        certificate_end(packet, at, limit)
-    }
+    ghost is_shortest = { refl };
 }
 
 impl Kind for NewView {
@@ -170,54 +154,49 @@ impl Kind for NewView {
 
     const SHORTEST: usize = 28;
 
-    ghost number = { 4 };
+    ghost NUMBER = { 4 };
 
-    ghost states = { change_at };
+    ghost SHORTEST = { 28 };
 
     ghost attaches = { λ limit b c at. behind (certified_at limit b c.committed at) };
 
-    fn kind_number() -> u32 {
-        Self::NUMBER
-    }
+    ghost tells = { under statement.NewView };
 
-    fn shortest_length() -> usize {
-        Self::SHORTEST
-    }
-
-    fn statement_at(packet: &[u8], at: usize) -> Result<(ViewChange, usize), Malformed> {
-        view_change_at(packet, at)
-    }
-
-    fn attachment_end(
-        said: ViewChange,
-        packet: &[u8],
-        at: usize,
-        limit: TagLimit,
-    ) -> Result<usize, Malformed> {
+    fn attachment_end(said: ViewChange, packet: Packet<'_>, at: usize) -> Result<usize, Malformed> {
         match said.committed {
-            Some(_) => certificate_end(packet, at, limit),
+            Some(_) => packet.certificate_end(at),
             None => Ok(at),
         }
     }
+
+    fn message<'a>(parts: Envelope<'a, ViewChange>) -> Message<'a>
+        ensures { told result ≡ under statement.NewView (pieces_of parts.entry) }
+    {
+        Message::NewView {
+            change: parts.statement,
+            tag: parts.tag,
+            certificate: parts.attachment,
+        }
+    }
+
+    ghost is_shortest = { refl };
 }
 
-pub struct NewViews;
-
-impl Counted for NewViews {
+impl Counted for NewView {
     ghost ends = { λ limit b at. behind (turn_at limit b at) };
 
-    fn end(packet: &[u8], at: usize, limit: TagLimit) -> Result<usize, Malformed> {
-        let (_, end) = envelope_at::<NewView>(packet, at, limit)?;
+    fn end(packet: Packet<'_>, at: usize) -> Result<usize, Malformed> {
+        let (_, end) = envelope_at::<NewView>(packet, at)?;
         Ok(end)
     }
 }
 
 // The place behind a progress certificate: a count word, and whole new-view messages.
-pub fn progress_end(packet: &[u8], at: usize, limit: TagLimit) -> Result<usize, Malformed>
-    ensures value { result ≡ behind (progress_at limit.bytes packet.now at) }
-    ensures within { IfOk result (λ e. Inside at e packet.now) }
+pub fn progress_end(packet: Packet<'_>, at: usize) -> Result<usize, Malformed>
+    ensures value { result ≡ behind (progress_at packet.entry.limit.bytes packet.entry.bytes.now at) }
+    ensures within { IfOk result (λ e. Inside at e packet.entry.bytes.now) }
 {
-    counted_end::<NewViews>(packet, at, limit)
+    packet.counted_end::<NewView>(at)
 }
 
 impl Kind for Propose {
@@ -227,32 +206,29 @@ impl Kind for Propose {
 
     const SHORTEST: usize = 36;
 
-    ghost number = { 1 };
+    ghost NUMBER = { 1 };
 
-    ghost states = { claim_at };
+    ghost SHORTEST = { 36 };
 
     ghost attaches = { λ limit b c at. behind (progress_at limit b at) };
 
-    fn kind_number() -> u32 {
-        Self::NUMBER
+    ghost tells = { under statement.Propose };
+
+    fn attachment_end(_said: Claim, packet: Packet<'_>, at: usize) -> Result<usize, Malformed> {
+        progress_end(packet, at)
     }
 
-    fn shortest_length() -> usize {
-        Self::SHORTEST
+    fn message<'a>(parts: Envelope<'a, Claim>) -> Message<'a>
+        ensures { told result ≡ under statement.Propose (pieces_of parts.entry) }
+    {
+        Message::Propose {
+            claim: parts.statement,
+            tag: parts.tag,
+            progress: parts.attachment,
+        }
     }
 
-    fn statement_at(packet: &[u8], at: usize) -> Result<(Claim, usize), Malformed> {
-        claim_at(packet, at)
-    }
-
-    fn attachment_end(
-        _said: Claim,
-        packet: &[u8],
-        at: usize,
-        limit: TagLimit,
-    ) -> Result<usize, Malformed> {
-        progress_end(packet, at, limit)
-    }
+    ghost is_shortest = { refl };
 }
 
 // The length of the shortest message of a kind.

@@ -7,6 +7,6 @@ pub returns : goal.returns
 unfolding progress_at
 returns c =
     record {
-      value = c.counted_end.ensures.value ∙ counted_behind (turn_at c.args.limit.bytes c.args.packet.now) c.args.packet.now c.args.at;
+      value = c.counted_end.ensures.value ∙ counted_behind (turn_at c.args.packet.limit.bytes c.args.packet.bytes.now) c.args.packet.bytes.now c.args.at;
       within = c.counted_end.ensures.within;
     }
