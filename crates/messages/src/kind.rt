@@ -9,7 +9,7 @@ ghost use Rattle.messages.specs.Parts.{Pieces, pieces_of, envelope_read, parts_a
 
 use super::message::Message;
 use values::TagLimit;
-use wire::{Claim, Counted, Field, Malformed, Packet, Part, ViewChange};
+use wire::{COMMIT, Claim, Counted, Field, Malformed, NEW_VIEW, PREPARE, PROPOSE, Packet, Part, ViewChange};
 
 // A message of one kind, taken apart.
 #[derive(Drop)]
@@ -87,7 +87,7 @@ pub struct NewView;
 impl Kind for Prepare {
     type Record = Claim;
 
-    const NUMBER: u32 = 2;
+    const NUMBER: u32 = PREPARE;
 
     const SHORTEST: usize = 32;
 
@@ -118,7 +118,7 @@ impl Kind for Prepare {
 impl Kind for Commit {
     type Record = Claim;
 
-    const NUMBER: u32 = 3;
+    const NUMBER: u32 = COMMIT;
 
     const SHORTEST: usize = 36;
 
@@ -150,7 +150,7 @@ impl Kind for Commit {
 impl Kind for NewView {
     type Record = ViewChange;
 
-    const NUMBER: u32 = 4;
+    const NUMBER: u32 = NEW_VIEW;
 
     const SHORTEST: usize = 28;
 
@@ -202,7 +202,7 @@ pub fn progress_end(packet: Packet<'_>, at: usize) -> Result<usize, Malformed>
 impl Kind for Propose {
     type Record = Claim;
 
-    const NUMBER: u32 = 1;
+    const NUMBER: u32 = PROPOSE;
 
     const SHORTEST: usize = 36;
 

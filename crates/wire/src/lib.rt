@@ -8,6 +8,6 @@ mod tag;
 mod words;
 
 pub use certificate::{Counted, Entries, Entry};
-pub use statement::{Claim, Head, Statement, ViewChange};
+pub use statement::{COMMIT, Claim, Head, NEW_VIEW, PREPARE, PROPOSE, Statement, ViewChange};
 pub use tag::{Part, pad};
 pub use words::{Field, Malformed, Packet};

@@ -38,6 +38,15 @@ pub enum Statement {
     NewView(ViewChange),
 }
 
+// The kinds' numbers.
+pub const PROPOSE: u32 = 1;
+
+pub const PREPARE: u32 = 2;
+
+pub const COMMIT: u32 = 3;
+
+pub const NEW_VIEW: u32 = 4;
+
 // ---- reading ----
 
 // Three words, one behind the other.
@@ -141,6 +150,20 @@ impl Piece for ViewChange {
 
     fn put(self, out: &mut [u8], at: usize) -> usize {
         (self.head, (self.prepared, self.committed)).put(out, at)
+    }
+}
+
+// The kind word, and what stands behind it.
+impl Piece for Statement {
+    ghost bytes = { statement_bytes };
+
+    fn put(self, out: &mut [u8], at: usize) -> usize {
+        match self {
+            Statement::Propose(claim) => (PROPOSE, claim).put(out, at),
+            Statement::Prepare(claim) => (PREPARE, claim).put(out, at),
+            Statement::Commit(claim) => (COMMIT, claim).put(out, at),
+            Statement::NewView(change) => (NEW_VIEW, change).put(out, at),
+        }
     }
 }
 

@@ -1,52 +1,11 @@
--- Laws of what is laid over a buffer.
-use Rattle.std.proofs.Common.{◌≡◌, ℕ, ◌+◌, ◌<◌, ◌≤◌, List, ◌++◌, length, take, drop, Ok, Err, sym, refl, ap, ◌∙◌, append_assoc, zero-add, arith, length-append, length-drop, length-take}
-use borrow.Rule.Slice.PartMut.{put_mid}
-use Rattle.std.proofs.lemmas.List.{drop-drop, drop_at, take_at, length-take-le}
-use Rattle.std.proofs.lemmas.Bool.{le-leb, lt-leb}
-use Rattle.values.specs.Refusals.{short}
-use Rattle.writing.specs.Lays.{laid, Lays}
-use Rattle.writing.specs.Written.{writing}
-
--- what a write to a part of a slice leaves
-pub laid_part : (o ys zs : List ℕ) (at k : ℕ) → ys ≡ zs → k ≡ length zs → put_mid at k o ys ≡ laid o at zs
-unfolding laid
-laid_part o ys zs at k e n = rw (e, n) (ap (λ d. take at o ++ (zs ++ d)) (drop-drop (length zs) at o))
-
--- one write behind another
-pub laid_more : (o xs ys : List ℕ) (at n : ℕ) → n ≡ at + length xs → at ≤ length o → laid (laid o at xs) n ys ≡ laid o at (xs ++ ys)
-unfolding laid
-laid_more o xs ys at n e h =
-    let p = take at o in
-    let d = drop (at + length xs) o in
-    let split : p ++ (xs ++ d) ≡ (p ++ xs) ++ d = sym (append_assoc p xs d) in
-    let long : length (p ++ xs) ≡ n = omega (arith, length-append p xs, length-take-le at o h) in
-    let front : take n (p ++ (xs ++ d)) ≡ p ++ xs = ap (take n) split ∙ take_at (p ++ xs) d n long in
-    let rest : drop n (p ++ (xs ++ d)) ≡ d = ap (drop n) split ∙ drop_at (p ++ xs) d n long in
-    let back : drop (n + length ys) (p ++ (xs ++ d)) ≡ drop (at + length xs + length ys) o =
-    sym (drop-drop (length ys) n (p ++ (xs ++ d))) ∙ ap (drop (length ys)) rest ∙ drop-drop (length ys) (at + length xs) o in
-    let place : at + length xs + length ys ≡ at + length (xs ++ ys) = omega (arith, length-append xs ys) in
-    rw (front, back, place) (append_assoc p xs (ys ++ drop (at + length (xs ++ ys)) o) ∙ ap (λ l. p ++ l) (sym (append_assoc xs ys (drop (at + length (xs ++ ys)) o))))
-
--- at the start of a buffer
-pub laid_start : (o xs : List ℕ) → laid o 0 xs ≡ xs ++ drop (length xs) o
-unfolding laid
-laid_start o xs = let e : 0 + length xs ≡ length xs = omega arith in rw e
-
-pub length-laid : (o xs : List ℕ) (at : ℕ) → at + length xs ≤ length o → length (laid o at xs) ≡ length o
-unfolding laid
-length-laid o xs at h = simp (length-append, length-take, length-drop) (omega arith)
-
-pub then : {o o' o'' xs ys : List ℕ} {at n m : ℕ} → Lays o at xs o' n → Lays o' n ys o'' m → Lays o at (xs ++ ys) o'' m
-then {o} {o'} {o''} {xs} {ys} {at} {n} {m} e f =
-    let long : length o' ≡ length o = ap length e.is ∙ length-laid o xs at (omega (arith, e.ends, e.inside)) in
-    record {
-      is = f.is ∙ ap (λ l. laid l n ys) e.is ∙ laid_more o xs ys at n e.ends (omega (arith, e.ends, e.inside));
-      ends = omega (arith, e.ends, f.ends, length-append xs ys);
-      inside = omega (arith, f.inside);
-    }
-
-pub from_start : {o o' xs : List ℕ} {n : ℕ} → Lays o 0 xs o' n → o' ≡ xs ++ drop (length xs) o
-from_start {o} {o'} {xs} e = e.is ∙ laid_start o xs
+-- What is laid at the start of a buffer is what writing there gives.
+use Rattle.std.proofs.Common.{◌≡◌, ℕ, ◌+◌, List, ◌++◌, length, true, false, cond, Bool, Ok, Err, sym, refl, ap, ◌∙◌, append_assoc, zero-add, arith, length-append, ◌≤◌}
+use Rattle.std.proofs.lemmas.Bool.{le-leb, lt-leb, leb-false}
+use Rattle.std.specs.Prelude.{nat_le, Result}
+use Rattle.values.specs.Refusals.{Refused, short, layout}
+use Rattle.buffers.specs.Lays.{Lays}
+use Rattle.buffers.proofs.Laying.{from_start}
+use Rattle.writing.specs.Written.{writing, tagging}
 
 -- what was laid at the start of a buffer is what writing there gives
 pub writes : {o o' xs : List ℕ} {n : ℕ} → Lays o 0 xs o' n → (Ok n ≡ (writing xs o).0) × (o' ≡ (writing xs o).1)
@@ -55,5 +14,30 @@ writes {o} {o'} {xs} {n} e =
     rw (le-leb (length xs) (length o) long) (ap Ok (e.ends ∙ zero-add (length xs)), from_start e)
 
 -- bytes that are too many are refused
-pub cramped : (o xs : List ℕ) → length o < length xs → (Err short ≡ (writing xs o).0) × (o ≡ (writing xs o).1)
-cramped o xs h = rw (lt-leb (length xs) (length o) h) (refl, refl)
+pub cramped : (o xs ys : List ℕ) (n : ℕ) → n ≡ length xs → nat_le (n + length ys) (length o) ≡ false → (Err short ≡ (writing (xs ++ ys) o).0) × (o ≡ (writing (xs ++ ys) o).1)
+cramped o xs ys n e h =
+    let tight = leb-false (n + length ys) (length o) h in
+    rw (lt-leb (length (xs ++ ys)) (length o) (omega (arith, length-append xs ys))) (refl, refl)
+
+-- the same of a message, whose statement and tag are counted together
+pub cramped_message : (o xs ts ys : List ℕ) (n m : ℕ) → n ≡ length xs → m ≡ length ts → nat_le (n + m + length ys) (length o) ≡ false
+    → (Err short ≡ (writing (xs ++ (ts ++ ys)) o).0) × (o ≡ (writing (xs ++ (ts ++ ys)) o).1)
+cramped_message o xs ts ys n m e f h =
+    let w = cramped o (xs ++ ts) ys (n + m) (omega (arith, length-append xs ts)) h in
+    rw (sym (append_assoc xs ts ys)) w
+
+-- what it says of a tag that making one succeeded, or failed
+module _ (limit : ℕ) (tag : List ℕ) where
+  pub tag_fits : (t : List ℕ) → Ok t ≡ tagging limit tag → (nat_le (length tag) limit ≡ true) × (t ≡ tag)
+  tag_fits t = by (nat_le (length tag) limit)
+    where
+      by : (b : Bool) → ◌≡◌ {A = Result (List ℕ) Refused} (Ok t) (cond b (Ok tag) (Err (layout 0))) → (b ≡ true) × (t ≡ tag)
+      by true e = (refl, cc)
+      by false e = absurd (let z : ◌≡◌ {A = ℕ} 0 1 = cc in omega arith)
+
+  pub tag_long : (r : Refused) → Err r ≡ tagging limit tag → (nat_le (length tag) limit ≡ false) × (r ≡ layout 0)
+  tag_long r = by (nat_le (length tag) limit)
+    where
+      by : (b : Bool) → ◌≡◌ {A = Result (List ℕ) Refused} (Err r) (cond b (Ok tag) (Err (layout 0))) → (b ≡ false) × (r ≡ layout 0)
+      by false e = (refl, cc)
+      by true e = absurd (let z : ◌≡◌ {A = ℕ} 0 1 = cc in omega arith)

@@ -7,6 +7,10 @@ use Rattle.wire.specs.Contents.{statement_bytes, tag_bytes}
 use Rattle.wire.specs.Layout.{draft_end}
 use Rattle.messages.specs.Parts.{Pieces}
 
+-- a tag that is longer than the limit is refused
+abbrev pub tagging : ℕ → List ℕ → Result (List ℕ) Refused
+tagging limit tag = cond (nat_le (length tag) limit) (Ok tag) (Err (layout 0))
+
 -- a refusal leaves out as it was
 abbrev pub refusing : Refused → List ℕ → Result ℕ Refused × List ℕ
 refusing e out = (Err e, out)

@@ -4,10 +4,11 @@ ghost use Rattle.values.specs.Refusals.{answered};
 ghost use Rattle.messages.specs.Parts.{told};
 ghost use Rattle.writing.specs.Written.{drafting, sending_of, sending, sealing};
 
-use super::pieces::{put, put_statement, put_tag, statement_length};
+use super::tag::Tag;
+use buffers::Piece;
 use messages::{Message, draft_end};
 use values::{Refusal, TagLimit};
-use wire::{Statement, pad};
+use wire::{Packet, Statement};
 
 fn has_room(out: &[u8], first: usize, second: usize) -> bool
     ensures { result ≡ nat_le (first + second) (length out.now) }
@@ -24,12 +25,10 @@ pub fn write_draft(
     ensures value { answered (λ n. n) result ≡ (drafting statement attachment.now out.old).0 }
     ensures after { out.new ≡ (drafting statement attachment.now out.old).1 }
 {
-    let len = statement_length(statement);
-    if !has_room(out, len, attachment.len()) {
+    if !has_room(out, statement.length(), attachment.len()) {
         return Err(Refusal::Short);
     }
-    let next = put_statement(out, 0, statement);
-    Ok(put(out, next, attachment))
+    Ok((statement, attachment).put(out, 0))
 }
 
 // Statement, tag and attachment, at the start of `out`; answers their length.
@@ -43,16 +42,37 @@ fn write_parts(
     ensures value { answered (λ n. n) result ≡ (sending_of limit.bytes statement tag.now attachment.now out.old).0 }
     ensures after { out.new ≡ (sending_of limit.bytes statement tag.now attachment.now out.old).1 }
 {
-    if tag.len() > limit.bytes() {
-        return Err(Refusal::Layout { place: 0 });
-    }
-    let len = statement_length(statement) + 4 + pad(tag.len());
-    if !has_room(out, len, attachment.len()) {
+    let tag = Tag::new(tag, limit)?;
+    if !has_room(out, statement.length() + tag.length(), attachment.len()) {
         return Err(Refusal::Short);
     }
-    let next = put_statement(out, 0, statement);
-    let next = put_tag(out, next, tag);
-    Ok(put(out, next, attachment))
+    Ok((statement, (tag, attachment)).put(out, 0))
+}
+
+// The statement of a message, its tag, and what it attaches.
+fn parts(message: Message<'_>) -> (Statement, &[u8], &[u8])
+    ensures statement { result.0 ≡ (told message.entry).statement }
+    ensures tag { result.1.now ≡ (told message.entry).tag.bytes }
+    ensures attachment { result.2.now ≡ (told message.entry).attachment.bytes }
+{
+    match message {
+        Message::Propose {
+            claim,
+            tag,
+            progress,
+        } => (Statement::Propose(claim), tag.bytes, progress.bytes),
+        Message::Prepare { claim, tag } => (Statement::Prepare(claim), tag.bytes, &[]),
+        Message::Commit {
+            claim,
+            tag,
+            certificate,
+        } => (Statement::Commit(claim), tag.bytes, certificate.bytes),
+        Message::NewView {
+            change,
+            tag,
+            certificate,
+        } => (Statement::NewView(change), tag.bytes, certificate.bytes),
+    }
 }
 
 // A whole message, at the start of `out`; answers its length.
@@ -64,48 +84,8 @@ pub fn write_message(
     ensures value { answered (λ n. n) result ≡ (sending limit.bytes (told message.entry) out.old).0 }
     ensures after { out.new ≡ (sending limit.bytes (told message.entry) out.old).1 }
 {
-    match message {
-        Message::Propose {
-            claim,
-            tag,
-            progress,
-        } => write_parts(
-            Statement::Propose(claim),
-            tag.bytes,
-            progress.bytes,
-            limit,
-            out,
-        ),
-        Message::Prepare { claim, tag } => write_parts(
-            Statement::Prepare(claim),
-            tag.bytes,
-            &[],
-            limit,
-            out,
-        ),
-        Message::Commit {
-            claim,
-            tag,
-            certificate,
-        } => write_parts(
-            Statement::Commit(claim),
-            tag.bytes,
-            certificate.bytes,
-            limit,
-            out,
-        ),
-        Message::NewView {
-            change,
-            tag,
-            certificate,
-        } => write_parts(
-            Statement::NewView(change),
-            tag.bytes,
-            certificate.bytes,
-            limit,
-            out,
-        ),
-    }
+    let (statement, tag, attachment) = parts(message);
+    write_parts(statement, tag, attachment, limit, out)
 }
 
 // Puts a tag behind the statement of a draft, and the message at the start of `out`;
@@ -114,15 +94,14 @@ pub fn seal(draft: &[u8], tag: &[u8], limit: TagLimit, out: &mut [u8]) -> Result
     ensures value { answered (λ n. n) result ≡ (sealing limit.bytes draft.now tag.now out.old).0 }
     ensures after { out.new ≡ (sealing limit.bytes draft.now tag.now out.old).1 }
 {
-    if tag.len() > limit.bytes() {
-        return Err(Refusal::Layout { place: 0 });
-    }
+    let tag = Tag::new(tag, limit)?;
     if !has_room(out, draft.len(), limit.bytes() + 4) {
         return Err(Refusal::Short);
     }
-    let end = draft_end(draft, limit)?;
-    let (statement, attachment) = draft.split_at(end);
-    let next = put(out, 0, statement);
-    let next = put_tag(out, next, tag);
-    Ok(put(out, next, attachment))
+    let end = draft_end(Packet {
+        bytes: draft,
+        limit,
+    })?;
+    let (front, back) = draft.split_at(end);
+    Ok((front, (tag, back)).put(out, 0))
 }

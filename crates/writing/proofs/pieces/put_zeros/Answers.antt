@@ -1,7 +1,0 @@
-use Rattle.std.proofs.Common.{rules}
-use Rattle.std.proofs.lemmas.List.{length-replicate}
-use Rattle.writing.proofs.Laying.{laid_part}
-use Rattle.writing.proofs.pieces.put_zeros.Goals as goal
-
-pub returns : goal.returns
-returns c = search (rules, laid_part, length-replicate)
