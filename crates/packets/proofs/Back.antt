@@ -10,14 +10,23 @@ use Rattle.wire.specs.declared.statement.Claim.{Claim}
 use Rattle.wire.specs.declared.statement.ViewChange.{ViewChange}
 use Rattle.wire.specs.declared.statement.Statement.{Statement}
 use Rattle.wire.specs.declared.statement.Statement.TheVariants.{Propose, Prepare, Commit, NewView}
-use Rattle.wire.specs.Words.{bind, word_at, word_bytes}
-use Rattle.wire.specs.Contents.{three_bytes, value_bytes, head_bytes, report_bytes, claim_bytes, change_bytes, padded, tag_bytes, Vote, vote_bytes, votes_bytes, certificate_bytes, Certified, reported, certified_bytes, Turn, change_of, turn_bytes, turns_bytes, progress_bytes, Content, propose, prepare, commit, new_view, statement_bytes, statement_of, message_bytes, draft_bytes}
+use Rattle.buffers.specs.Words.{word_bytes}
+use Rattle.wire.specs.Words.{bind, word_at}
+use Rattle.values.specs.Lines.{three_bytes, value_bytes}
+use Rattle.wire.specs.Contents.{head_bytes, report_bytes, claim_bytes, change_bytes, padded, tag_bytes, Vote, vote_bytes, votes_bytes, certificate_bytes, Certified, reported, certified_bytes, Turn, change_of, turn_bytes, turns_bytes, progress_bytes, Content, propose, prepare, commit, new_view, statement_bytes, statement_of, message_bytes, draft_bytes}
 use Rattle.wire.specs.Layout.{three_at, value_at, head_at, report_at, claim_at, change_at, zeros, tag_at, many_at, vote_at, votes_at, certified_at, envelope_at, turn_at, progress_at, nothing_at, propose_of, prepare_of, commit_of, new_view_of, message_of, wholly, draft_by, draft_end}
 use Rattle.wire.proofs.Results.{ok_same}
 use Rattle.wire.proofs.Lengths.{length-tag}
 use Rattle.messages.proofs.Envelopes.{envelope_on}
 use Rattle.packets.specs.Fits.{ValueFits, HeadFits, ReportFits, ClaimFits, ChangeFits, StatementFits, VotesFit, CertificateFits, CertifiedFits, TurnFits, TurnsFit, ContentFits}
-use Rattle.packets.proofs.Held.{Held, front, next, whole, word_back}
+use Rattle.buffers.proofs.Held.{Held, front, next, whole, word_held}
+
+-- a word
+pub word_back : (b : List ℕ) (at w : ℕ) → w < 2 ^ 32 → Held b at (word_bytes w) → word_at b at ≡ Ok w
+unfolding word_at
+word_back b at w f h =
+    let long : at + 4 ≤ length b = omega (arith, length-drop at b, ap length h.is) in
+    rw (le-leb (at + 4) (length b) long) (ap Ok (word_held b at w f h))
 
 -- ---- statements ----
 

@@ -1,4 +1,3 @@
-pub mod Held
 pub mod Back
 pub mod Only
 pub mod Whole

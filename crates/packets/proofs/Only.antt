@@ -8,12 +8,14 @@ use Rattle.wire.specs.declared.words.Malformed.{Malformed}
 use Rattle.wire.specs.declared.statement.Head.{Head}
 use Rattle.wire.specs.declared.statement.Claim.{Claim}
 use Rattle.wire.specs.declared.statement.ViewChange.{ViewChange}
-use Rattle.wire.specs.Words.{word_at, word_bytes}
-use Rattle.wire.specs.Contents.{three_bytes, value_bytes, head_bytes, report_bytes, claim_bytes, change_bytes, padded, tag_bytes, Vote, vote_bytes, votes_bytes, certificate_bytes, Certified, reported, certified_bytes, Turn, turn_bytes, turns_bytes, progress_bytes}
+use Rattle.buffers.specs.Words.{Bytes, word_bytes, word_from}
+use Rattle.wire.specs.Words.{word_at}
+use Rattle.values.specs.Lines.{three_bytes, value_bytes}
+use Rattle.wire.specs.Contents.{head_bytes, report_bytes, claim_bytes, change_bytes, padded, tag_bytes, Vote, vote_bytes, votes_bytes, certificate_bytes, Certified, reported, certified_bytes, Turn, turn_bytes, turns_bytes, progress_bytes}
 use Rattle.wire.specs.Layout.{three_at, value_at, head_at, report_by, report_at, claim_at, change_at, zeros, tag_by, tag_at, count_at, many_at, vote_at, votes_at, certified_at, kind_at, envelope_at, turn_at, progress_at, ending, wholly}
 use Rattle.wire.proofs.Results.{bind_ok, cond_ok, ok_same}
 use Rattle.wire.proofs.Lengths.{tag_read_lem}
-use Rattle.packets.specs.Fits.{ValueFits, HeadFits, ReportFits, ClaimFits, ChangeFits, VotesFit, CertificateFits, CertifiedFits, TurnFits, TurnsFit, Bytes}
+use Rattle.packets.specs.Fits.{ValueFits, HeadFits, ReportFits, ClaimFits, ChangeFits, VotesFit, CertificateFits, CertifiedFits, TurnFits, TurnsFit}
 
 -- xs stands between two places
 pub record Stands (b : List ℕ) (at : ℕ) (xs : List ℕ) (end : ℕ) : Type 0 where
@@ -51,7 +53,7 @@ pub record WordStands (b : List ℕ) (at w : ℕ) : Type 0 where
   pub small : w < 2 ^ 32
 
 pub word_only : (b : List ℕ) (at w : ℕ) → Bytes b → word_at b at ≡ Ok w → WordStands b at w
-unfolding word_at
+unfolding word_at word_from
 word_only b at w bytes e =
     let p = cond_ok (leb (at + 4) (length b)) (Ok (get_or b at 0 * 16777216 + get_or b (at + 1) 0 * 65536 + get_or b (at + 2) 0 * 256 + get_or b (at + 3) 0)) at w e in
     let long : at + 4 ≤ length b = leb-true (at + 4) (length b) p.0 in

@@ -8,15 +8,16 @@ use Rattle.values.specs.Refusals.{Refused, short, layout}
 use Rattle.wire.specs.declared.words.Malformed.{Malformed}
 use Rattle.wire.specs.declared.statement.Statement.{Statement}
 use Rattle.wire.specs.declared.statement.Statement.TheVariants.{Propose, Prepare, Commit, NewView}
-use Rattle.wire.specs.Words.{word_at, word_bytes}
+use Rattle.buffers.specs.Words.{word_bytes}
+use Rattle.wire.specs.Words.{word_at}
 use Rattle.wire.specs.Contents.{kind_of, body_bytes, statement_bytes, report_bytes, tag_bytes, certificate_bytes, certified_bytes, reported, progress_bytes, Content, propose, prepare, commit, new_view, statement_of, tag_of, attachment_bytes, message_bytes, draft_bytes, with_tag}
 use Rattle.wire.specs.Layout.{message_of, draft_end}
 use Rattle.messages.specs.Parts.{Pieces, map_ok, locate, shortest_of}
 use Rattle.wire.proofs.Lengths.{length-tag}
 use Rattle.writing.specs.Written.{refusing, sealed_bytes, sealing_by, sealing}
 use Rattle.packets.specs.Laws.{faulted, WrittenReadsBack, OneByteString, PartsAreThePacket, KindIsTheFirstWord, StatementsToldApart, SealedReadsBack, DraftsAreSealed, Shortest, FixesAreWords}
-use Rattle.packets.proofs.Held.{front, whole, word_back}
-use Rattle.packets.proofs.Back.{message_back, draft_back, told_apart}
+use Rattle.buffers.proofs.Held.{front, whole}
+use Rattle.packets.proofs.Back.{word_back, message_back, draft_back, told_apart}
 use Rattle.packets.proofs.Whole.{message_only, draft_only}
 
 err_not_ok : {A : Type 0} {e : Refused} {x : A} → ◌≡◌ {A = Result A Refused} (Err e) (Ok x) → ⊥

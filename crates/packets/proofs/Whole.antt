@@ -3,12 +3,13 @@ use Rattle.std.proofs.Common.{◌≡◌, ℕ, ◌+◌, ◌≤◌, Bool, true, fa
 use Rattle.wire.specs.declared.words.Malformed.{Malformed}
 use Rattle.wire.specs.declared.statement.Claim.{Claim}
 use Rattle.wire.specs.declared.statement.ViewChange.{ViewChange}
-use Rattle.wire.specs.Words.{bind, fault, word_at, word_bytes}
+use Rattle.buffers.specs.Words.{Bytes, word_bytes}
+use Rattle.wire.specs.Words.{bind, fault, word_at}
 use Rattle.wire.specs.Contents.{claim_bytes, change_bytes, statement_bytes, tag_bytes, certificate_bytes, Certified, reported, certified_bytes, Turn, change_of, turn_bytes, progress_bytes, Content, propose, prepare, commit, new_view, statement_of, message_bytes, draft_bytes, with_tag}
 use Rattle.wire.specs.Layout.{claim_at, change_at, tag_at, votes_at, certified_at, turn_at, progress_at, nothing_at, envelope_at, wholly, propose_of, prepare_of, commit_of, new_view_of, message_by, message_of, draft_as, draft_by, draft_end}
 use Rattle.wire.proofs.Results.{bind_ok, ok_same}
 use Rattle.wire.proofs.Lengths.{tag_read_lem, claim_ends, change_ends}
-use Rattle.packets.specs.Fits.{ClaimFits, ChangeFits, CertificateFits, CertifiedFits, TurnsFit, ContentFits, Bytes}
+use Rattle.packets.specs.Fits.{ClaimFits, ChangeFits, CertificateFits, CertifiedFits, TurnsFit, ContentFits}
 use Rattle.packets.proofs.Only.{Stands, joins, empty, all, word_only, claim_only, change_only, tag_only, certificate_only, certified_only, turn_only, progress_only, opened, wholly_ok}
 
 -- ---- messages ----

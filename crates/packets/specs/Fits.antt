@@ -1,5 +1,5 @@
 -- The numbers of a content fit their words, its tags the limit, and its counts 16.
-use Rattle.std.specs.Prelude.{ℕ, ◌^◌, ◌<◌, ◌≤◌, List, [], ◌∷◌, length, Some, None, Option, slice_index}
+use Rattle.std.specs.Prelude.{ℕ, ◌^◌, ◌<◌, ◌≤◌, List, [], ◌∷◌, length, Some, None, Option}
 use Rattle.values.specs.declared.fix.Value.{Value}
 use Rattle.values.specs.declared.fix.Report.{Report}
 use Rattle.wire.specs.declared.statement.Head.{Head}
@@ -60,7 +60,3 @@ ContentFits limit (propose c t ms) = ClaimFits c × (length t ≤ limit) × (len
 ContentFits limit (prepare c t) = ClaimFits c × (length t ≤ limit)
 ContentFits limit (commit c t vs) = ClaimFits c × (length t ≤ limit) × CertificateFits limit vs
 ContentFits limit (new_view m) = TurnFits limit m
-
--- the elements of a list are bytes
-abbrev pub Bytes : List ℕ → Type 0
-Bytes b = (i : ℕ) → slice_index b i < 256

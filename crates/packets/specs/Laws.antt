@@ -13,7 +13,8 @@ use Rattle.wire.specs.Contents.{kind_of, statement_bytes, tag_bytes, Content, pr
 use Rattle.wire.specs.Layout.{message_of}
 use Rattle.messages.specs.Parts.{Pieces, map_ok, locate, shortest_of}
 use Rattle.writing.specs.Written.{sealing}
-use Rattle.packets.specs.Fits.{ValueFits, StatementFits, ContentFits, Bytes}
+use Rattle.buffers.specs.Words.{Bytes}
+use Rattle.packets.specs.Fits.{ValueFits, StatementFits, ContentFits}
 
 -- ---- what reading answers ----
 

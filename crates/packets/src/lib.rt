@@ -9,7 +9,7 @@ ghost use Rattle.packets.specs.Laws.{reading_of, joined, WrittenReadsBack, OneBy
 
 use messages::{Message, read_message};
 use values::{Refusal, TagLimit};
-use wire::Statement;
+use wire::{Packet, Statement};
 use writing::write_message;
 
 // Which of the four messages a packet is, with its parts and their places.
@@ -21,7 +21,10 @@ pub fn read(packet: &[u8], limit: TagLimit) -> Result<Message<'_>, Refusal>
     ensures shortest { Shortest }
     ensures fixes { FixesAreWords }
 {
-    Ok(read_message(packet, limit)?)
+    Ok(read_message(Packet {
+        bytes: packet,
+        limit,
+    })?)
 }
 
 // Writes a message to the start of `out`, and answers its length.

@@ -1,6 +1,6 @@
 use Rattle.std.proofs.Common.{◌≡◌, Ok, sym, ap, ◌∙◌, rules}
 use Rattle.messages.specs.Parts.{map_ok, told}
-use Rattle.packets.specs.Fits.{Bytes}
+use Rattle.buffers.specs.Words.{Bytes}
 use Rattle.packets.specs.Laws.{faulted, reading_of}
 use Rattle.packets.proofs.Sealed.{one_byte_string, parts_are_the_packet, kind_is_the_first_word, shortest, fixes_are_words}
 use Rattle.packets.proofs.read.Goals as goal
