@@ -1,4 +1,4 @@
-use Rattle.std.proofs.Common.{◌≡◌, refl, ◌∙◌, arith}
+use Rattle.std.proofs.Common.{refl, ◌∙◌, arith}
 use Rattle.std.proofs.lemmas.List.{length-set}
 use Rattle.buffers.specs.Words.{word_from}
 use Rattle.sha256.specs.Sha256.{schedule}
@@ -17,6 +17,3 @@ loop-t-preserved c = (
   own_word c.loop-t.w c.args.block.now c.loop-t.t _ (omega (arith, c.as_chunks.ensures.front_len)) (omega (arith, c.as_chunks.ensures.front_len)) c.loop-t.invariant.1
       (word_of_chunk c.args.block.now c.as_chunks.result.0.now _ _ c.loop-t.t _ c.as_chunks.ensures.front (omega (arith, c.as_chunks.ensures.front_len)) c.from_be_bytes.ensures),
 )
-
-pub returns : goal.returns
-returns c = let e : c.loop-t.t ≡ 16 = omega (arith, c.as_chunks.ensures.front_len) in rw e at c.loop-t.invariant.1
