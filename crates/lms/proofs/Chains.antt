@@ -1,28 +1,26 @@
 -- The chains of a one-time signature, for a hash of any width.
-use Rattle.std.proofs.Common.{◌≡◌, ℕ, suc, ◌+◌, ◌-◌, ◌%◌, ◌<◌, ◌≤◌, List, ◌∷◌, ◌++◌, length, get_or, sym, refl, ap, ◌∙◌, append_assoc, add-one, arith, length-append}
+use Rattle.std.proofs.Common.{◌≡◌, ℕ, suc, ◌+◌, ◌-◌, ◌%◌, ◌<◌, ◌≤◌, List, ◌∷◌, ◌++◌, length, get_or, take, sym, refl, ap, ◌∙◌, append_assoc, add-one, arith, length-append}
 use Rattle.std.specs.List.{sum_by}
 use Rattle.std.proofs.lemmas.List.Recursion.{is_sum_by}
 use Rattle.buffers.specs.Lays.{Lays}
 use Rattle.buffers.proofs.Laying.{then}
-use Rattle.sha256.specs.Sha256.{padding, H0, compressed, digest}
+use Rattle.sha256.specs.Sha256.{padding, H0, compressed, digest, sha256}
 use Rattle.sha256.proofs.Blocks.{sha256_block}
-use Rattle.lms.proofs.Texts.{hashed_32}
 use Rattle.lms.specs.Lms.{u16str, nth, hashed, Cksm, chain, z, ends}
 
 -- ---- one chain ----
 
 -- one step more: the block that it hashes is its text and the padding
-pub step_more : (i a j : ℕ) (Iq y string block h : List ℕ) → length Iq ≡ 20 → length string ≡ 32 → a ≤ j → j < 256 → string ≡ chain 32 Iq i a y (j - a) → block ≡ Iq ++ (u16str i ++ (j ∷ (string ++ padding 55))) → h ≡ digest (compressed H0 block) → h ≡ chain 32 Iq i a y (j + 1 - a)
-unfolding chain
-step_more i a j Iq y string block h li ls la lj es eb eh =
+pub step_more : (n i a j : ℕ) (Iq y string block h r : List ℕ) → n ≤ 32 → length Iq ≡ 20 → length string ≡ n → a ≤ j → j < 256 → string ≡ chain n Iq i a y (j - a) → block ≡ (Iq ++ (u16str i ++ (j ∷ string))) ++ padding (23 + n) → h ≡ digest (compressed H0 block) → r ≡ take n h → r ≡ chain n Iq i a y (j + 1 - a)
+unfolding chain hashed
+step_more n i a j Iq y string block h r narrow li ls la lj es eb eh er =
     let text = Iq ++ (u16str i ++ (j ∷ string)) in
-    let long : length text ≡ 55 = omega (arith, length-append Iq (u16str i ++ (j ∷ string))) in
-    let split : text ++ padding (length text) ≡ block = ap (λ k. text ++ padding k) long ∙ append_assoc Iq (u16str i ++ (j ∷ string)) (padding 55) ∙ sym eb in
-    let hash : h ≡ hashed 32 text = eh ∙ ap (λ b. digest (compressed H0 b)) (sym split) ∙ sym (sha256_block text (omega arith)) ∙ hashed_32 text in
+    let long : length text ≡ 23 + n = omega (arith, length-append Iq (u16str i ++ (j ∷ string))) in
+    let hash : h ≡ sha256 text = eh ∙ ap (λ b. digest (compressed H0 b)) (eb ∙ ap (λ k. text ++ padding k) (sym long)) ∙ sym (sha256_block text (omega arith)) in
     let s : j + 1 - a ≡ suc (j - a) = omega arith in
     let m : a + (j - a) ≡ j = omega arith in
     let b : j % 256 ≡ j = omega arith in
-    hash ∙ (rw (s, m, b, ← es) refl)
+    er ∙ ap (take n) hash ∙ (rw (s, m, b, ← es) refl)
 
 -- ---- the checksum ----
 

@@ -1,6 +1,6 @@
 // The one-time signature of a leaf: 34 chains of hashes. `start` is the key's identifier and the
 // leaf's number.
-ghost use Rattle.std.specs.Prelude.{◌≡◌, ◌-◌, ◌++◌};
+ghost use Rattle.std.specs.Prelude.{◌≡◌, ◌-◌, ◌≤◌, ◌++◌};
 ghost use Rattle.lms.specs.Lms.{u32str, Cksm, Q, summed, D-PBLC, chain, ends, hashed, Kc};
 
 use super::parts::SignatureParts;
@@ -8,14 +8,17 @@ use buffers::Piece;
 use sha256::{Padding, hash, hash_block, hash_joined};
 
 // The end of chain `i`, from the string that stands at a step of it. Each step hashes one block.
-fn chain_end(start: &[u8; 20], i: u16, step: u8, string: &[u8; 32]) -> [u8; 32]
-    ensures { result ≡ chain 32 start.now i step string.now (255 - step) }
+fn chain_end<const N: usize>(start: &[u8; 20], i: u16, step: u8, string: &[u8; N]) -> [u8; N]
+    requires { N ≤ 32 }
+    ensures { result ≡ chain N start.now i step string.now (255 - step) }
 {
     let mut reached = *string;
     for j in step..255 {
+        let text = (start, (&i.to_be_bytes(), (&[j], &reached)));
         let mut block = [0; 64];
-        (start, (&i.to_be_bytes(), (&[j], (&reached, Padding(55))))).put(&mut block, 0);
-        reached = hash_block(&block);
+        (text, Padding(23 + N)).put(&mut block, 0);
+        let hash = hash_block(&block);
+        reached.copy_from_slice(&hash[..N]);
     }
     reached
 }
@@ -45,6 +48,7 @@ fn hash_ends(start: &[u8; 20], steps: &[u8; 34], strings: &[u8; 1088]) -> [u8; 3
 {
     let mut text = [0; 1110];
     let mut next = (start, &[0x80, 0x80]).put(&mut text, 0);
+    // Counted, since a chain's text has the chain's number.
     for (i, string) in strings.as_chunks::<32>().0.iter().enumerate() {
         let end = chain_end(start, i as u16, steps[i], string);
         next = (&end).put(&mut text, next);
