@@ -1,7 +1,6 @@
 use Rattle.std.proofs.Common.{◌≡◌, ◌+◌, ◌-◌, arith, refl, length-append}
 use Rattle.buffers.proofs.Laying.{filled}
 use Rattle.sha256.proofs.Blocks.{length-padding}
-use Rattle.sha256.specs.Sha256.{padding}
 use Rattle.lms.specs.Lms.{chain}
 use Rattle.lms.proofs.Chains.{step_more}
 use Rattle.lms.proofs.one_time.chain_end.Goals as goal
@@ -20,6 +19,3 @@ loop-j-preserved g c =
       omega arith,
       step_more n c.args.i c.args.step c.loop-j.j c.args.start.now c.args.string.now c.loop-j.reached c.put.new.out c.hash_block-hash.result _ c.requires c.told-start c.loop-j.invariant.0 (omega arith) (omega arith) c.loop-j.invariant.1 block c.hash_block-hash.ensures c.copy_from_slice.ensures.after,
     )
-
-pub returns : goal.returns
-returns g c = let e : c.loop-j.j ≡ 255 = omega arith in rw e at c.loop-j.invariant.1
