@@ -13,9 +13,9 @@ fn chain_end<const N: usize>(start: &[u8; 20], i: u16, step: u8, string: &[u8; N
     ensures { result ≡ chain N start.now i step string.now (255 - step) }
 {
     let mut reached = *string;
-    let mut block = [0; 64];
     for j in step..255 {
         let text = (start, (&i.to_be_bytes(), (&[j], &reached)));
+        let mut block = [0; 64];
         (text, Padding(23 + N)).put(&mut block, 0);
         let hash = hash_block(&block);
         reached.copy_from_slice(&hash[..N]);
