@@ -37,7 +37,7 @@ struct Explainer<'a> {
 }
 
 impl<'a> Explainer<'a> {
-    // What a packet holds. The first line of it goes on behind what is printed before.
+    // What a packet holds, behind a margin.
     fn explain_packet(self, bytes: &[u8], margin: usize) -> anyhow::Result<()> {
         let packet = Packet {
             bytes,
@@ -66,13 +66,11 @@ impl<'a> Explainer<'a> {
                 print!(rt; "  ")?;
                 self.explain_packet(sealed.as_slice(), 4)
             }
-            Err(refusal) => {
-                println!(rt; "  {}", Meant(refusal))?;
-                Ok(())
-            }
+            Err(refusal) => Ok(println!(rt; "  {}", Meant(refusal))?),
         }
     }
 
+    // One line, if there is more on it than a comment.
     fn explain_line(self, number: usize, line: &[u8]) -> anyhow::Result<()> {
         let rt = self.rt;
         let text = line::without_comment(line);
@@ -83,10 +81,7 @@ impl<'a> Explainer<'a> {
         match Task::read(rt.alloc(), text) {
             Ok(Task::Explain { packet }) => self.explain_packet(packet.as_slice(), 2),
             Ok(Task::Seal { draft, tag }) => self.explain_draft(draft.as_slice(), tag.as_slice()),
-            Err(bad) => {
-                println!(rt; "{bad}")?;
-                Ok(())
-            }
+            Err(bad) => Ok(println!(rt; "{bad}")?),
         }
     }
 }

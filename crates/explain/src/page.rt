@@ -2,7 +2,7 @@
 use super::pieces::{Fixed, Heading, Meant, Reported, Tag};
 use messages::{Envelope, Message, NewView, envelope_at, shortest};
 use packets::{read, write};
-use std::fmt;
+use std::{fmt, io};
 use values::Refusal;
 use wire::{Claim, Packet, Part, ViewChange};
 
@@ -25,14 +25,13 @@ impl<'a> Page<'a> {
             }
             Err(refusal) => {
                 self.refused(refusal)?;
-                self.shortest()
+                Ok(self.shortest()?)
             }
         }
     }
 
-    fn line<D: fmt::Display + Drop>(self, text: D) -> anyhow::Result<()> {
-        println!(self.rt; "{:1$}{text}", "", self.margin)?;
-        Ok(())
+    fn line<D: fmt::Display + Drop>(self, text: D) -> io::Result<()> {
+        println!(self.rt; "{:1$}{text}", "", self.margin)
     }
 
     // The same page, for lines that stand under another.
@@ -43,13 +42,13 @@ impl<'a> Page<'a> {
         }
     }
 
-    fn refused(self, refusal: Refusal) -> anyhow::Result<()> {
-        println!(self.rt; "{}", Meant(refusal))?;
-        Ok(())
+    // The first line of a packet that is not read.
+    fn refused(self, refusal: Refusal) -> io::Result<()> {
+        println!(self.rt; "{}", Meant(refusal))
     }
 
     // How long the packet should have been at least, if its kind is known.
-    fn shortest(self) -> anyhow::Result<()> {
+    fn shortest(self) -> io::Result<()> {
         let len = self.packet.bytes.len();
         let Ok(kind) = self.packet.word_at(0) else {
             return Ok(());
@@ -62,7 +61,7 @@ impl<'a> Page<'a> {
         }
     }
 
-    fn message(self, message: Message<'_>) -> anyhow::Result<()> {
+    fn message(self, message: Message<'_>) -> io::Result<()> {
         match message {
             Message::Propose {
                 claim,
@@ -92,12 +91,12 @@ impl<'a> Page<'a> {
         }
     }
 
-    fn kind(self, kind: &str) -> anyhow::Result<()> {
-        println!(self.rt; "{kind}, {} bytes", self.packet.bytes.len())?;
-        Ok(())
+    // The first line.
+    fn kind(self, kind: &str) -> io::Result<()> {
+        println!(self.rt; "{kind}, {} bytes", self.packet.bytes.len())
     }
 
-    fn claim(self, kind: &str, claim: Claim, tag: Part<'_>) -> anyhow::Result<()> {
+    fn claim(self, kind: &str, claim: Claim, tag: Part<'_>) -> io::Result<()> {
         self.kind(kind)?;
         self.line(Heading(claim.head))?;
         self.line(Fixed(claim.value.into()))?;
@@ -105,24 +104,19 @@ impl<'a> Page<'a> {
     }
 
     // A view change, its tag, and the certificate of what it reports as committed.
-    fn change(
-        self,
-        change: ViewChange,
-        tag: Part<'_>,
-        certificate: Part<'_>,
-    ) -> anyhow::Result<()> {
+    fn change(self, change: ViewChange, tag: Part<'_>, certificate: Part<'_>) -> io::Result<()> {
         self.line(Heading(change.head))?;
         self.line(format_args!("prepared {}", Reported(change.prepared)))?;
         self.line(format_args!("committed {}", Reported(change.committed)))?;
         self.line(Tag(tag))?;
-        if change.committed.is_some() {
-            self.certificate(certificate.place)?;
+        match change.committed {
+            Some(_) => self.certificate(certificate.place),
+            None => Ok(()),
         }
-        Ok(())
     }
 
     // A commit certificate: a line for each entry, under it.
-    fn certificate(self, place: usize) -> anyhow::Result<()> {
+    fn certificate(self, place: usize) -> io::Result<()> {
         let Ok(count) = self.packet.word_at(place) else {
             return Ok(());
         };
@@ -140,7 +134,7 @@ impl<'a> Page<'a> {
     }
 
     // A progress certificate: each new-view, under it.
-    fn progress(self, place: usize) -> anyhow::Result<()> {
+    fn progress(self, place: usize) -> io::Result<()> {
         let Ok(count) = self.packet.word_at(place) else {
             return Ok(());
         };
@@ -157,7 +151,7 @@ impl<'a> Page<'a> {
     }
 
     // A new-view inside a progress certificate.
-    fn new_view(self, place: usize, entry: Envelope<'_, ViewChange>) -> anyhow::Result<()> {
+    fn new_view(self, place: usize, entry: Envelope<'_, ViewChange>) -> io::Result<()> {
         self.line(format_args!("new-view at {place}"))?;
         let Envelope {
             statement,
@@ -178,9 +172,10 @@ impl<'a> Page<'a> {
                 } else {
                     "OTHER"
                 };
-                self.line(format_args!("written back, {same} {len} bytes"))
+                self.line(format_args!("written back, {same} {len} bytes"))?;
             }
-            Err(refusal) => self.refused(refusal),
+            Err(refusal) => self.refused(refusal)?,
         }
+        Ok(())
     }
 }

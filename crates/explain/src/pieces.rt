@@ -23,19 +23,26 @@ impl fmt::Display for Tag<'_> {
     }
 }
 
-// A coordinate, and the letters of the sides above and below zero.
+// A coordinate, and the letters for above and below zero.
 #[derive(Clone, Copy)]
-struct Coordinate(i32, char, char);
+struct Coordinate {
+    number: i32,
+    above: char,
+    below: char,
+}
 
 impl fmt::Display for Coordinate {
     fn fmt<W: fmt::Write>(&self, f: &mut fmt::Formatter<W>) -> fmt::Result {
-        let Coordinate(number, above, below) = *self;
         let Angle {
             degrees,
             minutes,
             parts,
-        } = Angle::of(number.unsigned_abs());
-        let side = if number < 0 { below } else { above };
+        } = Angle::of(self.number.unsigned_abs());
+        let side = if self.number < 0 {
+            self.below
+        } else {
+            self.above
+        };
         write!(f, "{degrees}°{minutes:02}.{parts:04}'{side}")
     }
 }
@@ -51,8 +58,16 @@ impl fmt::Display for Fixed {
             longitude,
             latitude,
         } = self.0;
-        let north = Coordinate(latitude, 'N', 'S');
-        let east = Coordinate(longitude, 'E', 'W');
+        let north = Coordinate {
+            number: latitude,
+            above: 'N',
+            below: 'S',
+        };
+        let east = Coordinate {
+            number: longitude,
+            above: 'E',
+            below: 'W',
+        };
         write!(f, "fix {track} {longitude} {latitude}, {north} {east}")?;
         if !self.0.is_legal() {
             f.write_str(", not legal (sites refuse it with 7)")?;
