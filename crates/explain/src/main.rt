@@ -20,10 +20,8 @@ const LONGEST: usize = 2048;
 
 // The tag limit: the first argument, if there is one.
 fn tag_limit(rt: &HostRuntime) -> anyhow::Result<TagLimit> {
-    let bytes = match env::args(rt)?.nth(1) {
-        Some(word) => word.as_str().parse().unwrap_or(0),
-        None => LONGEST,
-    };
+    let word = env::args(rt)?.nth(1);
+    let bytes = word.map_or(LONGEST, |word| word.as_str().parse().unwrap_or(0));
     TagLimit::new(bytes).map_err(|refusal| anyhow!(
         "{refusal}: the tag limit is a multiple of 4 from 4 to 2048"
     ))

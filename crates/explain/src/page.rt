@@ -25,7 +25,7 @@ impl<'a> Page<'a> {
             }
             Err(refusal) => {
                 self.refused(refusal)?;
-                Ok(self.shortest()?)
+                Ok(self.too_short()?)
             }
         }
     }
@@ -48,7 +48,7 @@ impl<'a> Page<'a> {
     }
 
     // How long the packet should have been at least, if its kind is known.
-    fn shortest(self) -> io::Result<()> {
+    fn too_short(self) -> io::Result<()> {
         let len = self.packet.bytes.len();
         let Ok(kind) = self.packet.word_at(0) else {
             return Ok(());
@@ -115,7 +115,8 @@ impl<'a> Page<'a> {
         }
     }
 
-    // A commit certificate: a line for each entry, under it.
+    // A commit certificate: a line for each entry, under it. It was read before, so that no
+    // part of it is cut.
     fn certificate(self, place: usize) -> io::Result<()> {
         let Ok(count) = self.packet.word_at(place) else {
             return Ok(());
@@ -133,7 +134,7 @@ impl<'a> Page<'a> {
         Ok(())
     }
 
-    // A progress certificate: each new-view, under it.
+    // A progress certificate, as whole: each new-view, under it.
     fn progress(self, place: usize) -> io::Result<()> {
         let Ok(count) = self.packet.word_at(place) else {
             return Ok(());

@@ -57,7 +57,7 @@ fn tag_limits(rt: HostRuntime) -> Result<(), Fail> {
 }
 
 // The words that a fix writes.
-fn value(track: u32, longitude: i32, latitude: i32) -> Value {
+pub fn value(track: u32, longitude: i32, latitude: i32) -> Value {
     Value::from(Fix {
         track,
         longitude,

@@ -1,7 +1,8 @@
 // Drafts, seals and messages, written into a buffer that holds nines before.
+use super::fleets::value;
 use packets::{draft, read, seal, write};
 use std::test::Fail;
-use values::{Fix, Refusal, TagLimit, Value};
+use values::{Refusal, TagLimit};
 use wire::{Claim, Head, Statement};
 
 // The prepare of (7, 600000, 30000000), round 9, view 1, site 1.
@@ -9,18 +10,13 @@ const PREPARE: [u8; 28] =
     *b"\x00\x00\x00\x02\x00\x00\x00\x09\x00\x00\x00\x01\x00\x00\x00\x01\x00\x00\x00\x07\x00\x09\x27\xc0\x01\xc9\xc3\x80";
 
 fn prepare() -> Statement {
-    let value = Value::from(Fix {
-        track: 7,
-        longitude: 600000,
-        latitude: 30000000,
-    });
     Statement::Prepare(Claim {
         head: Head {
             round: 9,
             view: 1,
             site: 1,
         },
-        value,
+        value: value(7, 600000, 30000000),
     })
 }
 
