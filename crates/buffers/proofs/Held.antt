@@ -1,8 +1,7 @@
 -- What stands at a place of a list, and words that stand there.
 use Rattle.std.proofs.Common.{◌≡◌, ℕ, ◌+◌, ◌*◌, ◌/◌, ◌%◌, ◌^◌, ◌<◌, List, [], ◌++◌, length, get_or, take, drop, sym, ap, ◌∙◌, append_assoc, append-nil, mod-eq_of_lt, div-add-mod', arith}
-use native.Mathlib.Nat.{div-div-eq-div-mul}
 use Rattle.std.proofs.lemmas.List.{get_or-drop, drop-drop, drop_at, take_at}
-use Rattle.std.proofs.lemmas.Nat.{div_below}
+use Rattle.std.proofs.lemmas.Nat.{from_be_bytes-to_be_bytes_4}
 use Rattle.buffers.specs.Words.{word_from, word_bytes}
 
 -- at a place of b stands xs, and then the rest
@@ -23,14 +22,6 @@ next {b} {at} n xs ys e h =
 pub whole : (xs : List ℕ) → Held xs 0 xs
 whole xs = record { rest = []; is = sym (append-nil xs) }
 
-digits : (w : ℕ) → w < 2 ^ 32 → w / 16777216 % 256 * 16777216 + w / 65536 % 256 * 65536 + w / 256 % 256 * 256 + w % 256 ≡ w
-digits w h =
-    let low : w / 256 * 256 + w % 256 ≡ w = div-add-mod' w 256 in
-    let mid : w / 65536 * 256 + w / 256 % 256 ≡ w / 256 = rw (sym (div-div-eq-div-mul w 256 256)) (div-add-mod' (w / 256) 256) in
-    let high : w / 16777216 * 256 + w / 65536 % 256 ≡ w / 65536 = rw (sym (div-div-eq-div-mul w 65536 256)) (div-add-mod' (w / 65536) 256) in
-    let top : w / 16777216 % 256 ≡ w / 16777216 = mod-eq_of_lt (div_below w 16777216 256 (omega arith) h) in
-    omega arith
-
 -- the word that stands at a place
 pub word_held : (b : List ℕ) (at w : ℕ) → w < 2 ^ 32 → Held b at (word_bytes w) → word_from b at ≡ w
 unfolding word_from
@@ -40,7 +31,7 @@ word_held b at w f h =
     let d1 : get_or b (at + 1) 0 ≡ w / 65536 % 256 = sym (get_or-drop at b 1 0) ∙ ap (λ l. get_or l 1 0) h.is in
     let d2 : get_or b (at + 2) 0 ≡ w / 256 % 256 = sym (get_or-drop at b 2 0) ∙ ap (λ l. get_or l 2 0) h.is in
     let d3 : get_or b (at + 3) 0 ≡ w % 256 = sym (get_or-drop at b 3 0) ∙ ap (λ l. get_or l 3 0) h.is in
-    rw (d0, d1, d2, d3) (digits w f)
+    rw (d0, d1, d2, d3) (from_be_bytes-to_be_bytes_4 w f)
 
 -- so many bytes from a place on
 pub part_held : {b xs : List ℕ} {at : ℕ} (n : ℕ) → length xs ≡ n → Held b at xs → take n (drop at b) ≡ xs

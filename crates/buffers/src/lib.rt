@@ -1,7 +1,7 @@
 // Bytes of a lent buffer: words read from it, and pieces laid into it.
 #![tactic(auto)]
 
-ghost use Rattle.std.specs.Prelude.{◌≡◌, ℕ, ◌+◌, ◌≤◌, List, ◌++◌, length, replicate, Decides};
+ghost use Rattle.std.specs.Prelude.{◌≡◌, ℕ, ◌+◌, ◌≤◌, List, ◌++◌, length, replicate};
 ghost use Rattle.buffers.specs.Words.{word_from, word_bytes, optional};
 ghost use Rattle.buffers.specs.Lays.{Lays};
 
@@ -11,13 +11,6 @@ pub fn word(bytes: &[u8], at: usize) -> u32
     ensures { result ≡ word_from bytes.now at }
 {
     u32::from_be_bytes([bytes[at], bytes[at + 1], bytes[at + 2], bytes[at + 3]])
-}
-
-// Whether two byte strings are equal.
-pub fn same(a: &[u8], b: &[u8]) -> bool
-    ensures { Decides result (a.now ≡ b.now) }
-{
-    a == b
 }
 
 // What is laid into a buffer.

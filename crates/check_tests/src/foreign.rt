@@ -1,7 +1,6 @@
 // A check of another kind than the library's, alone and below a layer of the library's.
 ghost use Rattle.check_tests.specs.Echoes.{echoed, Short-echoed};
 
-use buffers::same;
 use checks::{Check, RevocationList};
 
 // Vouches for what a tag repeats, up to so many bytes.
@@ -13,14 +12,12 @@ struct Echo {
 impl Check for Echo {
     ghost vouched = { λ c. echoed c.most };
 
-    ghost short = { λ c. Short-echoed c.most };
-
     fn vouches(&self, _site: u32, statement: &[u8], tag: &[u8]) -> bool {
-        if statement.len() > 64 || statement.len() > self.most as usize {
-            return false;
-        }
-        same(tag, statement)
+        let most = self.most as usize;
+        statement.len() <= 64 && statement.len() <= most && tag == statement
     }
+
+    ghost short = { λ c. Short-echoed c.most };
 }
 
 // How many of the sites below 20 a check vouches for: code that knows no check by name.

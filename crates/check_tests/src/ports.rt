@@ -2,15 +2,14 @@
 use super::leaves::{FIRST, SECOND, one_key, row};
 use super::revocations::{NONE, only};
 use super::signature::{KEY, STATEMENT, TAG};
-use buffers::put;
+use buffers::Piece;
 use checks::{Check, PortPrefix, Register, RevocationList, ShippedCheck};
 use std::test::Fail;
 
 #[test]
 fn port_over_register(rt: HostRuntime) -> Result<(), Fail> {
-    let mut rows = [0u8; 144];
-    put(&mut rows, 0, &row(1, b"\x01\x02\x03\x04abc")?);
-    put(&mut rows, 72, &row(1, &[9; 64])?);
+    let mut rows = [0; 144];
+    (&row(1, b"\x01\x02\x03\x04abc")?, &row(1, &[9; 64])?).put(&mut rows, 0);
     let port = PortPrefix::new(0x01020304, Register::new(&rows));
     assert!(rt; port.vouches(1, b"abc", &FIRST));
     assert!(rt;

@@ -1,11 +1,16 @@
 -- The rows of a register.
-use Rattle.std.proofs.Common.{◌≡◌, ℕ, ◌+◌, ◌-◌, ◌*◌, ◌<◌, ◌≤◌, Bool, true, false, cond, leb, List, ◌++◌, length, take, drop, replicate, Some, None, Decides, sym, refl, ap, ◌∙◌, arith, length-append, length-drop, length-take}
+use Rattle.std.proofs.Common.{◌≡◌, ℕ, ◌+◌, ◌-◌, ◌*◌, ◌/◌, ◌<◌, ◌≤◌, Bor, Option, Bool, true, false, cond, leb, List, ◌++◌, length, take, drop, replicate, Some, None, sym, refl, ap, ◌∙◌, arith, length-append, length-drop, length-take}
 use Rattle.std.proofs.lemmas.List.{drop_at, take_at, drop-replicate, length-replicate}
 use Rattle.std.proofs.lemmas.Bool.{le-leb, leb-true, eq-eqb}
 use Rattle.std.specs.Str.{bytes_eq}
+use Rattle.std.specs.Simd.{first_chunks}
+use Rattle.std.specs.Option.{option_eq}
+use Rattle.std.specs.Slice.{IsItemAt}
+use Rattle.lms.specs.Lms.{nth}
+use Rattle.lms.proofs.Texts.{chunk_is}
 use Rattle.buffers.specs.Words.{word_from, word_bytes}
 use Rattle.buffers.specs.Lays.{Lays}
-use Rattle.buffers.proofs.Equal.{tested, equal, apart}
+use Rattle.buffers.proofs.Equal.{equal, apart}
 use Rattle.buffers.proofs.Held.{whole, word_held}
 use Rattle.buffers.proofs.Laying.{from_start}
 use Rattle.checks.specs.Registers.{row_bytes, row_of, row_at, registered, RowsAreVouched}
@@ -42,10 +47,13 @@ module _ (rows : List ℕ) (site : ℕ) (m tag row : List ℕ) (k : ℕ) (has : 
   past_the_end cut =
       sym (no_row rows k site m (leb-true (length m) 64 made.0) cut) ∙ ap (bytes_eq (row_at rows k)) (sym made.1) ∙ vouched_by_row
 
-  pub compared : (r : Bool) → Decides r (take (72 * k + 72 - 72 * k) (drop (72 * k) rows) ≡ row) → r ≡ registered rows site m tag
-  compared r d =
-      let n : 72 * k + 72 - 72 * k ≡ 72 = omega arith in
-      tested (row_at rows k) row r (rw n at d) ∙ vouched_by_row
+  -- what code finds of the row that the tag names
+  pub found_row : (cs : List (List ℕ)) (found : Option (Bor (List ℕ))) (its : Bor (List ℕ)) (r : Bool) → cs ≡ first_chunks 72 (length rows / 72) rows → length cs ≡ length rows / 72 → its.now ≡ row → IsItemAt cs k found → r ≡ option_eq (λ (x y : Bor (List ℕ)). bytes_eq x.now y.now) found (Some its) → r ≡ registered rows site m tag
+  unfolding nth
+  found_row cs None its r ec en ei h e = let past : length cs ≤ k = h.3 in e ∙ past_the_end (omega arith)
+  found_row cs (Some x) its r ec en ei h e =
+      let within : k < length cs = h.3.0 in
+      e ∙ ap (λ l. bytes_eq l its.now) (h.1 ∙ chunk_is 72 (length rows / 72) k rows cs x.now ec (omega arith)) ∙ ap (bytes_eq (row_at rows k)) ei ∙ vouched_by_row
 
 -- each row is vouched for, by its number
 pub rows_are_vouched : RowsAreVouched

@@ -7,10 +7,10 @@ pub trait Check {
     // The meaning: the triples that it vouches for.
     ghost vouched: { Self → Vouched };
 
-    // None of these has a statement above 64 bytes.
-    ghost short: { (c : Self) → Short (vouched c) };
-
     // Says yes exactly for these. Asking changes nothing.
     fn vouches(&self, site: u32, statement: &[u8], tag: &[u8]) -> bool
         ensures { result ≡ vouched self.now site statement.now tag.now };
+
+    // None of these has a statement above 64 bytes.
+    ghost short: { (c : Self) → Short (vouched c) };
 }

@@ -23,12 +23,10 @@ impl LmsKeys {
 impl Check for LmsKeys {
     ghost vouched = { λ c. signed c.keys };
 
-    ghost short = { λ c. Short-signed c.keys };
-
     fn vouches(&self, site: u32, statement: &[u8], tag: &[u8]) -> bool {
-        if statement.len() > 64 || site >= 16 {
-            return false;
-        }
-        verify(&self.keys[site as usize], statement, tag)
+        let key = self.keys.get(site as usize);
+        statement.len() <= 64 && key.is_some_and(|key| verify(key, statement, tag))
     }
+
+    ghost short = { λ c. Short-signed c.keys };
 }

@@ -3,7 +3,7 @@ ghost use Rattle.std.specs.Prelude.{◌≡◌};
 ghost use Rattle.checks.specs.Port.{with_port, Short-with_port, PrefixedAsBelow};
 
 use super::check::Check;
-use buffers::put;
+use buffers::Piece;
 
 // Tags are made for a statement with the port's number before it, so that what is said in one
 // port counts for nothing in another.
@@ -26,15 +26,14 @@ impl<C: Check> PortPrefix<C> {
 impl<C: Check> Check for PortPrefix<C> {
     ghost vouched = { λ c. with_port c.port (C.Check.vouched c.below) };
 
-    ghost short = { λ c. Short-with_port c.port (C.Check.vouched c.below) };
-
     fn vouches(&self, site: u32, statement: &[u8], tag: &[u8]) -> bool {
         if statement.len() > 60 {
             return false;
         }
-        let mut prefixed = [0u8; 64];
-        let next = put(&mut prefixed, 0, &self.port.to_be_bytes());
-        let end = put(&mut prefixed, next, statement);
-        self.below.vouches(site, &prefixed[0..end], tag)
+        let mut prefixed = [0; 64];
+        let end = (self.port, statement).put(&mut prefixed, 0);
+        self.below.vouches(site, &prefixed[..end], tag)
     }
+
+    ghost short = { λ c. Short-with_port c.port (C.Check.vouched c.below) };
 }

@@ -24,18 +24,15 @@ impl<C: Check> RevocationList<C> {
 fn is_revoked(revoked: &[bool; 16], site: u32) -> bool
     ensures { result ≡ slice_index_or revoked.now site false }
 {
-    if site >= 16 {
-        return false;
-    }
-    revoked[site as usize]
+    revoked.get(site as usize).is_some_and(|mark| *mark)
 }
 
 impl<C: Check> Check for RevocationList<C> {
     ghost vouched = { λ c. unless_revoked c.revoked (C.Check.vouched c.below) };
 
-    ghost short = { λ c. Short-unless_revoked c.revoked (C.Check.vouched c.below) (C.Check.short c.below) };
-
     fn vouches(&self, site: u32, statement: &[u8], tag: &[u8]) -> bool {
         !is_revoked(&self.revoked, site) && self.below.vouches(site, statement, tag)
     }
+
+    ghost short = { λ c. Short-unless_revoked c.revoked (C.Check.vouched c.below) (C.Check.short c.below) };
 }

@@ -28,9 +28,9 @@ impl ShippedCheck {
 impl Check for ShippedCheck {
     ghost vouched = { λ c. shipped c.layers.revoked c.layers.below.port c.layers.below.below.keys };
 
-    ghost short = { λ c. Short-shipped c.layers.revoked c.layers.below.port c.layers.below.below.keys };
-
     fn vouches(&self, site: u32, statement: &[u8], tag: &[u8]) -> bool {
         self.layers.vouches(site, statement, tag)
     }
+
+    ghost short = { λ c. Short-shipped c.layers.revoked c.layers.below.port c.layers.below.below.keys };
 }

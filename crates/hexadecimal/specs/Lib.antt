@@ -1,1 +1,2 @@
 pub mod Spelling
+pub mod Texts

@@ -1,5 +1,6 @@
 -- The bytes that a text spells: two hexadecimal digits a byte, with blanks anywhere.
-use Rattle.std.specs.Prelude.{◌≡◌, ℕ, ◌+◌, ◌-◌, ◌*◌, ◌/◌, ◌%◌, ◌<◌, Bool, true, cond, ◌&&◌, ◌||◌, List, [], ◌∷◌, ◌++◌, Some, None, Ok, Err, vec_items, Option, Result, Vec, ◌==◌, nat_le}
+use Rattle.std.specs.Prelude.{◌≡◌, ℕ, ◌+◌, ◌-◌, ◌*◌, ◌/◌, ◌%◌, ◌<◌, Bool, cond, ◌&&◌, ◌||◌, List, [], ◌∷◌, ◌++◌, Some, None, Ok, Err, vec_items, Option, Result, Vec, ◌==◌, nat_le}
+use Rattle.std.specs.List.{list_all}
 use Rattle.std.specs.declared.alloc.Global.{Global}
 use Rattle.hexadecimal.specs.declared.BadText.{BadText}
 use Rattle.hexadecimal.specs.declared.BadText.TheVariants.{NoDigit, HalfByte, NoMemory}
@@ -9,8 +10,7 @@ abbrev pub is_space : ℕ → Bool
 is_space c = c == 32 || c == 9 || c == 13
 
 abbrev pub all_spaces : List ℕ → Bool
-all_spaces [] = true
-all_spaces (c ∷ cs) = is_space c && all_spaces cs
+all_spaces text = list_all is_space text
 
 -- 0 to 9, a to f, A to F
 abbrev pub digit_of : ℕ → Option ℕ
@@ -19,10 +19,6 @@ digit_of c =
     (cond (nat_le 97 c && nat_le c 102) (Some (c - 97 + 10))
     (cond (nat_le 65 c && nat_le c 70) (Some (c - 65 + 10))
     None))
-
-abbrev pub Small : Option ℕ → Type 0
-Small None = Unit {0}
-Small (Some d) = d < 16
 
 -- one digit more behind what is spelled so far: the digit that waits for its second, and the bytes
 abbrev pub taken : ℕ → Option ℕ → List ℕ → Option ℕ × List ℕ

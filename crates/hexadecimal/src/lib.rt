@@ -1,13 +1,17 @@
 // Hexadecimal text: two digits a byte, with blanks anywhere.
 #![tactic(auto)]
 
-ghost use Rattle.std.specs.Prelude.{◌≡◌, ◌<◌, [], IfErr, None, OnOk};
+ghost use Rattle.std.specs.Prelude.{◌≡◌, ◌<◌, [], Some, IfErr, None, OnOk};
+ghost use Rattle.std.specs.Option.{option_map};
 ghost use Rattle.hexadecimal.specs.declared.BadText.TheVariants.{NoMemory};
-ghost use Rattle.hexadecimal.specs.Spelling.{is_space, all_spaces, digit_of, Small, taken, spelled, Tells, SpelledByItsText};
+ghost use Rattle.hexadecimal.specs.Spelling.{is_space, all_spaces, digit_of, taken, spelled, Tells, SpelledByItsText};
+ghost use Rattle.hexadecimal.specs.Texts.{bad_text};
 
 use std::alloc::{AllocError, AllocFailed, Global};
+use std::error::Error;
+use std::fmt;
 
-#[derive(Drop)]
+#[derive(Clone, Copy, Debug, PartialEq, Eq, Drop)]
 pub enum BadText {
     // this character is neither a digit nor a blank
     NoDigit { at: usize },
@@ -15,6 +19,20 @@ pub enum BadText {
     HalfByte,
     NoMemory,
 }
+
+impl fmt::Display for BadText {
+    ghost output = { λ bad. Some (bad_text bad) };
+
+    fn fmt<W: fmt::Write>(&self, f: &mut fmt::Formatter<W>) -> fmt::Result {
+        match self {
+            BadText::NoDigit { at } => write!(f, "no hexadecimal digit at character {at}"),
+            BadText::HalfByte => write!(f, "half a byte is left over"),
+            BadText::NoMemory => write!(f, "no memory for this line"),
+        }
+    }
+}
+
+impl Error for BadText {}
 
 impl From<AllocError> for BadText {
     fn from(_: AllocError) -> BadText {
@@ -40,41 +58,49 @@ fn is_space(b: u8) -> bool
 pub fn is_blank(text: &[u8]) -> bool
     ensures { result ≡ all_spaces text.now }
 {
-    for b in text {
-        if !is_space(*b) {
-            return false;
-        }
-    }
-    true
+    text.iter().all(|b| is_space(*b))
 }
 
-fn digit(b: u8) -> Option<u8>
-    ensures value { result ≡ digit_of b }
-    ensures small { Small result }
-{
-    match b {
-        b'0'..=b'9' => Some(b - b'0'),
-        b'a'..=b'f' => Some(b - b'a' + 10),
-        b'A'..=b'F' => Some(b - b'A' + 10),
-        _ => None,
+// What one character stands for.
+#[derive(Clone, Copy)]
+struct Digit {
+    value: u8,
+    ghost small: { value < 16 },
+}
+
+impl Digit {
+    fn of(b: u8) -> Option<Digit>
+        ensures { option_map (λ d. d.value) result ≡ digit_of b }
+    {
+        let value = match b {
+            b'0'..=b'9' => b - b'0',
+            b'a'..=b'f' => b - b'a' + 10,
+            b'A'..=b'F' => b - b'A' + 10,
+            _ => return None,
+        };
+        Some(Digit { value })
     }
 }
 
-// One digit more: it waits for its second, or makes a byte with the one that waits.
-fn take(high: &mut Option<u8>, bytes: &mut Vec<u8>, value: u8) -> Result<(), BadText>
-    requires { (Small high.old) × (value < 16) }
-    ensures after { OnOk result ((high.new, bytes.new.items) ≡ taken value high.old bytes.old.items) }
-    ensures small { OnOk result (Small high.new) }
-    ensures refused { IfErr result (λ e. e ≡ NoMemory) }
-{
-    match *high {
-        None => *high = Some(value),
-        Some(first) => {
-            bytes.push(first * 16 + value)?;
-            *high = None;
+// What is spelled so far: the digit that waits for its second, and the bytes.
+#[derive(Drop)]
+struct Spelling {
+    high: Option<Digit>,
+    bytes: Vec<u8>,
+}
+
+impl Spelling {
+    // One digit more: it waits for its second, or makes a byte with the one that waits.
+    fn take(&mut self, digit: Digit) -> Result<(), BadText>
+        ensures after { OnOk result ((option_map (λ d. d.value) self.new.high, self.new.bytes.items) ≡ taken digit.value (option_map (λ d. d.value) self.old.high) self.old.bytes.items) }
+        ensures refused { IfErr result (λ e. e ≡ NoMemory) }
+    {
+        match self.high.take() {
+            None => self.high = Some(digit),
+            Some(first) => self.bytes.push(first.value * 16 + digit.value)?,
         }
+        Ok(())
     }
-    Ok(())
 }
 
 // The bytes that a text spells.
@@ -82,19 +108,19 @@ pub fn decode(heap: Global, text: &[u8]) -> Result<Vec<u8>, BadText>
     ensures value { Tells result (spelled text.now 0 None []) }
     ensures every { SpelledByItsText }
 {
-    let mut bytes = Vec::new(heap);
-    let mut high = None;
+    let mut so_far = Spelling {
+        high: None,
+        bytes: Vec::new(heap),
+    };
     for (at, b) in text.iter().enumerate() {
         if is_space(*b) {
             continue;
         }
-        let Some(value) = digit(*b) else {
-            return Err(BadText::NoDigit { at });
-        };
-        take(&mut high, &mut bytes, value)?;
+        let digit = Digit::of(*b).ok_or(BadText::NoDigit { at })?;
+        so_far.take(digit)?;
     }
-    if high.is_some() {
+    if so_far.high.is_some() {
         return Err(BadText::HalfByte);
     }
-    Ok(bytes)
+    Ok(so_far.bytes)
 }

@@ -1,10 +1,11 @@
 -- Texts that are put together in a buffer, and their hashes.
-use Rattle.std.proofs.Common.{◌≡◌, ℕ, ◌+◌, ◌-◌, ◌*◌, ◌≤◌, List, length, take, drop, sym, refl, ap, ◌∙◌, arith}
+use Rattle.std.proofs.Common.{◌≡◌, ℕ, ◌≤◌, List, length, get_or, ◌<◌, sym, ap, ◌∙◌, arith}
 use Rattle.std.proofs.lemmas.List.{take_all, length-take-le}
+use Rattle.std.specs.Simd.{first_chunks}
 use Rattle.buffers.specs.Lays.{Lays}
 use Rattle.buffers.proofs.Laying.{filled}
 use Rattle.sha256.specs.Sha256.{sha256}
-use Rattle.sha256.proofs.Blocks.{length-sha256}
+use Rattle.sha256.proofs.Blocks.{length-sha256, get_or-first_chunks}
 use Rattle.lms.specs.Lms.{hashed, nth}
 
 -- the hash of 32 bytes is SHA-256
@@ -21,6 +22,6 @@ pub hashed_text : {o o' text : List ℕ} {n : ℕ} (h : List ℕ) → Lays o 0 t
 hashed_text {o} {o'} {text} h e k s = s ∙ ap sha256 (filled e k) ∙ hashed_32 text
 
 -- string i, as code cuts it out
-pub cut_string : (n i : ℕ) (s : List ℕ) → take (n * i + n - n * i) (drop (n * i) s) ≡ nth n i s
+pub chunk_is : (n k i : ℕ) (s : List ℕ) (cs : List (List ℕ)) (d : List ℕ) → cs ≡ first_chunks n k s → i < k → get_or cs i d ≡ nth n i s
 unfolding nth
-cut_string n i s = let k : n * i + n - n * i ≡ n = omega arith in rw k refl
+chunk_is n k i s cs d e h = ap (λ l. get_or l i d) e ∙ get_or-first_chunks n k s i d h

@@ -1,84 +1,67 @@
 // The one-time signature of a leaf: 34 chains of hashes. `start` is the key's identifier and the
 // leaf's number.
-ghost use Rattle.std.specs.Prelude.{◌≡◌, ◌-◌, ◌≤◌, ◌++◌, length};
-ghost use Rattle.lms.specs.Lms.{Cksm, Q, summed, D-PBLC, chain, ends, hashed, Kc};
+ghost use Rattle.std.specs.Prelude.{◌≡◌, ◌-◌, ◌≤◌, ◌++◌};
+ghost use Rattle.lms.specs.Lms.{u32str, Cksm, Q, summed, D-PBLC, chain, ends, hashed, Kc};
 
-use buffers::put;
-use sha256::{hash, hash_block, hash_joined, put_padding};
+use super::parts::SignatureParts;
+use buffers::Piece;
+use sha256::{Padding, hash, hash_block, hash_joined};
 
-// Takes the string of chain `i` from a step to the chain's end. Each step hashes one block.
-fn finish_chain(start: &[u8], i: u16, step: u8, string: &mut [u8])
-    requires start { length start.now ≡ 20 }
-    requires width { length string.old ≤ 32 }
-    ensures { string.new ≡ chain (length string.old) start.now i step string.old (255 - step) }
+// The end of chain `i`, from the string that stands at a step of it. Each step hashes one block.
+fn chain_end<const N: usize>(start: &[u8; 20], i: u16, step: u8, string: &[u8; N]) -> [u8; N]
+    requires { N ≤ 32 }
+    ensures { result ≡ chain N start.now i step string.now (255 - step) }
 {
-    let n = string.len();
-    let mut block = [0u8; 64];
-    let next = put(&mut block, 0, start);
-    put(&mut block, next, &i.to_be_bytes());
-    put_padding(&mut block, 23 + n, 23 + n);
+    let mut reached = *string;
+    let mut block = [0; 64];
     for j in step..255 {
-        let next = put(&mut block, 22, &[j]);
-        put(&mut block, next, string);
-        let h = hash_block(&block);
-        string.copy_from_slice(&h[0..n]);
+        let text = (start, (&i.to_be_bytes(), (&[j], &reached)));
+        (text, Padding(23 + N)).put(&mut block, 0);
+        let hash = hash_block(&block);
+        reached.copy_from_slice(&hash[..N]);
     }
+    reached
 }
 
-fn checksum(digest: &[u8]) -> u16
-    requires { length digest.now ≤ 32 }
+fn checksum(digest: &[u8; 32]) -> u16
     ensures { result ≡ Cksm digest.now }
 {
-    let mut sum = 0;
-    for b in digest {
-        sum += 255 - *b as u16;
-    }
-    sum
+    digest.iter().map(|b| 255 - u16::from(*b)).sum()
 }
 
 // The steps at which the chains of a signature start: the bytes of the message's digest, and the
 // two bytes of its checksum.
-fn first_steps(start: &[u8], randomizer: &[u8], message: &[u8]) -> [u8; 34]
-    requires start { length start.now ≡ 20 }
-    requires randomizer { length randomizer.now ≡ 32 }
+fn first_steps(start: &[u8; 20], randomizer: &[u8; 32], message: &[u8]) -> [u8; 34]
     ensures { result ≡ summed (Q 32 start.now randomizer.now message.now) }
 {
-    let mut text = [0u8; 54];
-    let next = put(&mut text, 0, start);
-    let next = put(&mut text, next, &[0x81, 0x81]);
-    put(&mut text, next, randomizer);
+    let mut text = [0; 54];
+    (start, (&[0x81, 0x81], randomizer)).put(&mut text, 0);
     let digest = hash_joined(&text, message);
-    let mut steps = [0u8; 34];
-    let next = put(&mut steps, 0, &digest);
-    put(&mut steps, next, &checksum(&digest).to_be_bytes());
+    let mut steps = [0; 34];
+    (&digest, &checksum(&digest).to_be_bytes()).put(&mut steps, 0);
     steps
 }
 
 // The hash of the ends of the 34 chains, as one string.
-fn hash_ends(start: &[u8], steps: &[u8], strings: &[u8]) -> [u8; 32]
-    requires start { length start.now ≡ 20 }
-    requires steps { length steps.now ≡ 34 }
-    requires strings { length strings.now ≡ 1088 }
+fn hash_ends(start: &[u8; 20], steps: &[u8; 34], strings: &[u8; 1088]) -> [u8; 32]
     ensures { result ≡ hashed 32 (start.now ++ (D-PBLC ++ ends 32 start.now steps.now strings.now 34)) }
 {
-    let mut text = [0u8; 1110];
-    let next = put(&mut text, 0, start);
-    let mut next = put(&mut text, next, &[0x80, 0x80]);
-    for i in 0..34 {
-        let mut string = [0u8; 32];
-        put(&mut string, 0, &strings[32 * i..32 * i + 32]);
-        finish_chain(start, i as u16, steps[i], &mut string);
-        next = put(&mut text, next, &string);
+    let mut text = [0; 1110];
+    let mut next = (start, &[0x80, 0x80]).put(&mut text, 0);
+    // Counted, since a chain's text has the chain's number.
+    for (i, string) in strings.as_chunks::<32>().0.iter().enumerate() {
+        let end = chain_end(start, i as u16, steps[i], string);
+        next = (&end).put(&mut text, next);
     }
     hash(&text)
 }
 
-// The candidate for the leaf's one-time public key.
-pub fn one_time_key(start: &[u8], randomizer: &[u8], strings: &[u8], message: &[u8]) -> [u8; 32]
-    requires start { length start.now ≡ 20 }
-    requires randomizer { length randomizer.now ≡ 32 }
-    requires strings { length strings.now ≡ 1088 }
-    ensures { result ≡ Kc 32 34 start.now randomizer.now strings.now message.now }
+// The candidate for the one-time public key of the leaf that signed.
+pub fn one_time_key(id: &[u8; 16], signed: &SignatureParts, message: &[u8]) -> [u8; 32]
+    ensures { result ≡ Kc 32 34 (id.now ++ u32str signed.now.leaf) signed.now.randomizer.now signed.now.strings.now message.now }
 {
-    hash_ends(start, &first_steps(start, randomizer, message), strings)
+    let mut start = [0; 20];
+    (id, signed.leaf).put(&mut start, 0);
+    let steps = first_steps(&start, signed.randomizer, message);
+    hash_ends(&start, &steps, signed.strings)
 }

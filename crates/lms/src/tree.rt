@@ -1,67 +1,46 @@
 // The tree over the leaves' one-time keys: a node's hash is that of its two children.
-ghost use Rattle.std.specs.Prelude.{◌≡◌, ◌/◌, ◌<◌, ◌++◌, length};
-ghost use Rattle.lms.specs.Lms.{u32str, D-LEAF, D-INTR, hashed, in_order, Tc};
+ghost use Rattle.std.specs.Prelude.{◌≡◌, ◌/◌, ◌≤◌, ◌++◌, length};
+ghost use Rattle.lms.specs.Lms.{u32str, D-INTR, hashed, in_order, Tc};
 
-use buffers::{put, put_word};
+use super::parts::SignatureParts;
+use buffers::Piece;
 use sha256::hash;
 
-// The hash of a leaf: its number as a node of the tree, and its one-time key.
-fn hash_leaf(id: &[u8], node: u32, key: &[u8]) -> [u8; 32]
-    requires id { length id.now ≡ 16 }
-    requires key { length key.now ≡ 32 }
-    ensures { result ≡ hashed 32 (id.now ++ (u32str node ++ (D-LEAF ++ key.now))) }
-{
-    let mut text = [0u8; 54];
-    let next = put(&mut text, 0, id);
-    let next = put_word(&mut text, next, node);
-    let next = put(&mut text, next, &[0x82, 0x82]);
-    put(&mut text, next, key);
-    hash(&text)
-}
+// What marks the text of a leaf, and that of a node above its children.
+const LEAF: [u8; 2] = [0x82, 0x82];
 
-// The hash of a node above its two children.
-fn hash_parent(id: &[u8], node: u32, left: &[u8], right: &[u8]) -> [u8; 32]
-    requires id { length id.now ≡ 16 }
-    requires left { length left.now ≡ 32 }
-    requires right { length right.now ≡ 32 }
-    ensures { result ≡ hashed 32 (id.now ++ (u32str node ++ (D-INTR ++ (left.now ++ right.now)))) }
+const PARENT: [u8; 2] = [0x83, 0x83];
+
+// The hash of a node: its number, a mark, and what stands below it.
+fn hash_node<P: Piece>(id: &[u8; 16], node: u32, mark: &[u8; 2], below: P) -> [u8; 32]
+    requires { length (P.bytes below) ≤ 64 }
+    ensures { result ≡ hashed 32 (id.now ++ (u32str node ++ (mark.now ++ P.bytes below))) }
 {
-    let mut text = [0u8; 86];
-    let next = put(&mut text, 0, id);
-    let next = put_word(&mut text, next, node);
-    let next = put(&mut text, next, &[0x83, 0x83]);
-    let next = put(&mut text, next, left);
-    put(&mut text, next, right);
-    hash(&text)
+    let mut text = [0; 86];
+    let end = (id, (node, (mark, below))).put(&mut text, 0);
+    hash(&text[..end])
 }
 
 // The hash of the node above a node and its sibling: one with an odd number is the right child.
-fn hash_above(id: &[u8], node: u32, value: &[u8], sibling: &[u8]) -> [u8; 32]
-    requires id { length id.now ≡ 16 }
-    requires value { length value.now ≡ 32 }
-    requires sibling { length sibling.now ≡ 32 }
+fn hash_above(id: &[u8; 16], node: u32, value: &[u8; 32], sibling: &[u8; 32]) -> [u8; 32]
     ensures { result ≡ hashed 32 (id.now ++ (u32str (node / 2) ++ (D-INTR ++ in_order node value.now sibling.now))) }
 {
     if node % 2 == 1 {
-        hash_parent(id, node / 2, sibling, value)
+        hash_node(id, node / 2, &PARENT, (sibling, value))
     } else {
-        hash_parent(id, node / 2, value, sibling)
+        hash_node(id, node / 2, &PARENT, (value, sibling))
     }
 }
 
-// The candidate for the root, from the one-time key of a leaf and the path to the root.
-pub fn root(id: &[u8], leaf: u32, path: &[u8], key: &[u8]) -> [u8; 32]
-    requires id { length id.now ≡ 16 }
-    requires leaf { leaf < 32 }
-    requires path { length path.now ≡ 160 }
-    requires key { length key.now ≡ 32 }
-    ensures { result ≡ Tc 32 5 id.now leaf path.now key.now }
+// The candidate for the root, from the one-time key of a signature's leaf and the path to the root.
+pub fn root(id: &[u8; 16], signed: &SignatureParts, key: &[u8; 32]) -> [u8; 32]
+    ensures { result ≡ Tc 32 5 id.now signed.now.leaf signed.now.path.now key.now }
 {
-    let bottom = 32 + leaf;
-    let mut node = bottom;
-    let mut value = hash_leaf(id, node, key);
-    for i in 0..5 {
-        value = hash_above(id, node, &value, &path[32 * i..32 * i + 32]);
+    let mut node = 32 + signed.leaf;
+    let mut value = hash_node(id, node, &LEAF, key);
+    let path = signed.path;
+    for sibling in path.as_chunks::<32>().0 {
+        value = hash_above(id, node, &value, sibling);
         node /= 2;
     }
     value

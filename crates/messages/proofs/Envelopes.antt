@@ -1,15 +1,11 @@
 -- An envelope read with its attachment, beside one that keeps only the place behind it.
-use Rattle.std.proofs.Common.{◌≡◌, ℕ, Bool, true, false, cond, eqb, List, length, Ok, Err, Result, sym, refl, ap, ◌∙◌}
+use Rattle.std.proofs.Common.{◌≡◌, ℕ, Bool, true, false, cond, eqb, List, length, Ok, Err, Result, refl, ap}
 use Rattle.std.proofs.lemmas.Bool.{eqb-true}
 use Rattle.wire.specs.declared.words.Malformed.{Malformed}
 use Rattle.wire.specs.Words.{bind, fault, word_at}
-use Rattle.wire.specs.Layout.{kind_at, envelope_at, nothing_at, draft_as, wholly}
+use Rattle.wire.specs.Layout.{kind_at, envelope_at, wholly}
 use Rattle.wire.specs.Places.{behind}
-use Rattle.messages.specs.Parts.{ended, map_ok, draft_place}
-
-pub map_ok-same : {A : Type 0} (r : Result A Malformed) → map_ok (λ x. x) r ≡ r
-map_ok-same (Ok x) = refl
-map_ok-same (Err e) = refl
+use Rattle.messages.specs.Parts.{ended, map_ok}
 
 -- an envelope from its tag on, from its statement on, and from its kind on
 module _ {S T A M : Type 0} (st : ℕ → Result (S × ℕ) Malformed) (tag : ℕ → Result (T × ℕ) Malformed) (att : S → ℕ → Result (A × ℕ) Malformed) (make : S × ℕ → T × ℕ → A × ℕ → M) where
@@ -111,11 +107,3 @@ module _ {S T A M N P : Type 0} (b : List ℕ) (kind : ℕ) (st : ℕ → Result
 
   pub envelope_same : map_ok f (wholly b (envelope_at kind st tag att make b 0)) ≡ map_ok g (wholly b (envelope_at kind st tag last_of make' b 0))
   envelope_same = same_word (word_at b 0)
-
--- a draft's statement ends where its readings say
-pub draft_same : {S A : Type 0} (b : List ℕ) (kind : ℕ) (st : ℕ → Result (S × ℕ) Malformed) (att : S → ℕ → Result (A × ℕ) Malformed)
-    → draft_place kind st (λ s k. behind (att s k)) b ≡ draft_as kind st att b
-draft_same {S} {A} b kind st att =
-    sym (map_ok-same (draft_place kind st (λ s k. behind (att s k)) b))
-    ∙ sym (envelope_same b kind st nothing_at att (λ s t a. s.1) (λ s t a. s.1) (λ n. n) (λ n. n) (λ s t a p q r e. refl))
-    ∙ map_ok-same (draft_as kind st att b)

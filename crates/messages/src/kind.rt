@@ -9,7 +9,9 @@ ghost use Rattle.messages.specs.Parts.{Pieces, pieces_of, envelope_read, parts_a
 
 use super::message::Message;
 use values::TagLimit;
-use wire::{COMMIT, Claim, Counted, Field, Malformed, NEW_VIEW, PREPARE, PROPOSE, Packet, Part, ViewChange};
+use wire::{
+    COMMIT, Claim, Counted, Field, Malformed, NEW_VIEW, PREPARE, PROPOSE, Packet, Part, ViewChange,
+};
 
 // A message of one kind, taken apart.
 #[derive(Drop)]

@@ -1,6 +1,7 @@
 -- What is read stands there as it is written, and in no other bytes.
-use Rattle.std.proofs.Common.{◌≡◌, ℕ, zero, suc, ◌+◌, ◌-◌, ◌*◌, ◌/◌, ◌%◌, ◌^◌, ◌<◌, ◌≤◌, true, ◌&&◌, eqb, leb, List, [], ◌∷◌, ◌++◌, length, get_or, take, drop, replicate, Some, None, Ok, Option, Result, sym, refl, ap, ◌∙◌, append_assoc, append-nil, arith, length-drop}
+use Rattle.std.proofs.Common.{◌≡◌, ℕ, zero, suc, ◌+◌, ◌-◌, ◌*◌, ◌^◌, ◌<◌, ◌≤◌, true, ◌&&◌, eqb, leb, List, [], ◌∷◌, ◌++◌, length, get_or, take, drop, replicate, Some, None, Ok, Option, Result, sym, refl, ap, ◌∙◌, append_assoc, append-nil, arith, length-drop}
 use Rattle.std.proofs.lemmas.List.{drop_more, drop-drop, drop_all, take-append-drop, length-take-le}
+use Rattle.std.proofs.lemmas.Nat.{be_bytes_4}
 use Rattle.std.proofs.lemmas.Bool.{leb-true, eqb-true, and_parts}
 use Rattle.values.specs.declared.fix.Value.{Value}
 use Rattle.values.specs.declared.fix.Report.{Report}
@@ -35,18 +36,12 @@ all {b} {xs} {end} s e = s.is ∙ ap (λ (z : List ℕ). xs ++ z) (drop_all end 
 
 -- ---- words ----
 
-module _ (x y z t : ℕ) (xs : x < 256) (ys : y < 256) (zs : z < 256) (ts : t < 256) where
-  digit0 : (x * 16777216 + y * 65536 + z * 256 + t) / 16777216 % 256 ≡ x
-  digit0 = omega arith
-
-  digit1 : (x * 16777216 + y * 65536 + z * 256 + t) / 65536 % 256 ≡ y
-  digit1 = omega arith
-
-  digit2 : (x * 16777216 + y * 65536 + z * 256 + t) / 256 % 256 ≡ z
-  digit2 = omega arith
-
-  digit3 : (x * 16777216 + y * 65536 + z * 256 + t) % 256 ≡ t
-  digit3 = omega arith
+four_bytes : (x y z t : ℕ) → x < 256 → y < 256 → z < 256 → t < 256 → Bytes (x ∷ y ∷ z ∷ t ∷ [])
+four_bytes x y z t a b c d zero = a
+four_bytes x y z t a b c d (suc zero) = b
+four_bytes x y z t a b c d (suc (suc zero)) = c
+four_bytes x y z t a b c d (suc (suc (suc zero))) = d
+four_bytes x y z t a b c d (suc (suc (suc (suc i)))) = omega arith
 
 pub record WordStands (b : List ℕ) (at w : ℕ) : Type 0 where
   pub is : Stands b at (word_bytes w) (at + 4)
@@ -65,15 +60,11 @@ word_only b at w bytes e =
     let d1 = rw e1 at (drop_more b (at + 1) 0 (omega arith)) in
     let d2 = rw e2 at (drop_more b (at + 2) 0 (omega arith)) in
     let d3 = rw e3 at (drop_more b (at + 3) 0 (omega arith)) in
-    let b0 = bytes at in
-    let b1 = bytes (at + 1) in
-    let b2 = bytes (at + 2) in
-    let b3 = bytes (at + 3) in
-    let q0 : w / 16777216 % 256 ≡ get_or b at 0 = ap (λ n. n / 16777216 % 256) (sym is) ∙ digit0 _ _ _ _ b0 b1 b2 b3 in
-    let q1 : w / 65536 % 256 ≡ get_or b (at + 1) 0 = ap (λ n. n / 65536 % 256) (sym is) ∙ digit1 _ _ _ _ b0 b1 b2 b3 in
-    let q2 : w / 256 % 256 ≡ get_or b (at + 2) 0 = ap (λ n. n / 256 % 256) (sym is) ∙ digit2 _ _ _ _ b0 b1 b2 b3 in
-    let q3 : w % 256 ≡ get_or b (at + 3) 0 = ap (λ n. n % 256) (sym is) ∙ digit3 _ _ _ _ b0 b1 b2 b3 in
-    record { is = record { is = rw (q0, q1, q2, q3, ← d3, ← d2, ← d1, ← d0); within = long }; small = omega arith }
+    let four = get_or b at 0 ∷ get_or b (at + 1) 0 ∷ get_or b (at + 2) 0 ∷ get_or b (at + 3) 0 ∷ [] in
+    let small : Bytes four = four_bytes _ _ _ _ (bytes at) (bytes (at + 1)) (bytes (at + 2)) (bytes (at + 3)) in
+    let written : word_bytes w ≡ four = be_bytes_4 four w refl small (sym is) in
+    let front : drop at b ≡ four ++ drop (at + 4) b = rw (← d3, ← d2, ← d1, ← d0) in
+    record { is = record { is = front ∙ ap (λ l. l ++ drop (at + 4) b) (sym written); within = long }; small = omega (arith, bytes at, bytes (at + 1), bytes (at + 2), bytes (at + 3)) }
 
 -- three words that were read, and what make makes of them
 record Three {A : Type 0} (make : ℕ → ℕ → ℕ → A) (b : List ℕ) (at : ℕ) (d : A) : Type 0 where

@@ -1,8 +1,8 @@
 -- Blocks of 64 bytes: of a message, of its padding, and of both.
 use Rattle.std.proofs.Common.{◌≡◌, ℕ, zero, suc, ◌+◌, ◌-◌, ◌*◌, ◌/◌, ◌%◌, ◌^◌, ◌<◌, ◌≤◌, List, [], ◌∷◌, ◌++◌, length, get_or, take, drop, replicate, sym, refl, ap, ◌∙◌, add-zero, add-suc, mul-zero, mul-suc, add-one, arith, length-append, length-drop}
-use Rattle.std.proofs.lemmas.List.{drop-drop, drop-append-le, take-append-le, drop_at, take_all, length-replicate}
+use Rattle.std.proofs.lemmas.List.{drop-drop, drop-append-le, take-append-le, drop_at, take_all, length-replicate, get_or-take, get_or-drop}
 use Rattle.std.specs.Simd.{first_chunks}
-use Rattle.buffers.specs.Words.{Bytes}
+use Rattle.buffers.specs.Words.{Bytes, word_from}
 use Rattle.sha256.specs.declared.compression.State.{State}
 use Rattle.sha256.specs.Sha256.{block64, zero_bytes, padding, H0, compressed, after, after_all, words_bytes, digest, sha256}
 use Rattle.sha256.specs.Laws.{PaddingIsTheShortest}
@@ -10,7 +10,7 @@ use Rattle.sha256.specs.Laws.{PaddingIsTheShortest}
 -- ---- blocks ----
 
 -- the blocks that a slice is cut into
-get_or-first_chunks : (n k : ℕ) (xs : List ℕ) (i : ℕ) (d : List ℕ) → i < k → get_or (first_chunks n k xs) i d ≡ take n (drop (n * i) xs)
+pub get_or-first_chunks : (n k : ℕ) (xs : List ℕ) (i : ℕ) (d : List ℕ) → i < k → get_or (first_chunks n k xs) i d ≡ take n (drop (n * i) xs)
 get_or-first_chunks n zero xs i d h = absurd (omega arith)
 get_or-first_chunks n (suc k) xs zero d h = rw mul-zero refl
 get_or-first_chunks n (suc k) xs (suc i) d h =
@@ -18,6 +18,19 @@ get_or-first_chunks n (suc k) xs (suc i) d h =
     let t = drop-drop (n * i) n xs in
     let m : n * suc i ≡ n + n * i = mul-suc n i ∙ omega arith in
     rw m (cc)
+
+-- the word that a chunk of four bytes writes
+pub word_of_chunk : (m : List ℕ) (cs : List (List ℕ)) (d : List ℕ) (k t x : ℕ) → cs ≡ first_chunks 4 k m → t < k → x ≡ word_from (get_or cs t d) 0 → x ≡ word_from m (4 * t)
+unfolding word_from
+word_of_chunk m cs d k t x ec h e =
+    let c : get_or cs t d ≡ take 4 (drop (4 * t) m) = ap (λ l. get_or l t d) ec ∙ get_or-first_chunks 4 k m t d h in
+    let at : (j : ℕ) → j < 4 → get_or (get_or cs t d) j 0 ≡ get_or m (4 * t + j) 0 = λ j l. ap (λ b. get_or b j 0) c ∙ get_or-take 4 (drop (4 * t) m) j 0 l ∙ get_or-drop (4 * t) m j 0 in
+    let z : 4 * t + 0 ≡ 4 * t = omega arith in
+    let a0 = at 0 (omega arith) in
+    let a1 = at 1 (omega arith) in
+    let a2 = at 2 (omega arith) in
+    let a3 = at 3 (omega arith) in
+    rw z at (rw (a0, a1, a2, a3) at e)
 
 -- one block more
 pub block_more : (h s t : State) (m : List ℕ) (bs : List (List ℕ)) (d : List ℕ) (i k : ℕ) → bs ≡ first_chunks 64 k m → i < k → s ≡ after i h m → t ≡ compressed s (get_or bs i d) → t ≡ after (i + 1) h m
@@ -78,7 +91,7 @@ unfolding padding
 length-padding n = simp (length-append, length-replicate) (omega arith)
 
 -- a number in 64 bits, as a machine writes it
-pub block64-bytes : (x : ℕ) → x / 2 ^ 56 % 256 ∷ x / 2 ^ 48 % 256 ∷ x / 2 ^ 40 % 256 ∷ x / 2 ^ 32 % 256 ∷ x / 2 ^ 24 % 256 ∷ x / 2 ^ 16 % 256 ∷ x / 2 ^ 8 % 256 ∷ x % 256 ∷ [] ≡ block64 x
+block64-bytes : (x : ℕ) → x / 2 ^ 56 % 256 ∷ x / 2 ^ 48 % 256 ∷ x / 2 ^ 40 % 256 ∷ x / 2 ^ 32 % 256 ∷ x / 2 ^ 24 % 256 ∷ x / 2 ^ 16 % 256 ∷ x / 2 ^ 8 % 256 ∷ x % 256 ∷ [] ≡ block64 x
 block64-bytes x =
     let a : x / 2 ^ 56 % 256 ≡ x / 2 ^ 32 / 16777216 % 256 = omega arith in
     let b : x / 2 ^ 48 % 256 ≡ x / 2 ^ 32 / 65536 % 256 = omega arith in
@@ -98,9 +111,10 @@ block64-mod x =
     let h : x % 2 ^ 64 % 256 ≡ x % 256 = omega arith in
     rw (a, b, c, d, e, f, g, h) refl
 
-pub bits_of : (len bits : ℕ) → bits ≡ len * 8 % 2 ^ 64 → block64 bits ≡ block64 (8 * len)
-bits_of len bits e =
-    let c : len * 8 ≡ 8 * len = omega arith in rw (e, c) (block64-mod (8 * len))
+-- a message's length in bits, as a machine writes it
+pub bits_of : (len : ℕ) (bytes : List ℕ) → (let x = len * 8 % 2 ^ 64 in bytes ≡ x / 2 ^ 56 % 256 ∷ x / 2 ^ 48 % 256 ∷ x / 2 ^ 40 % 256 ∷ x / 2 ^ 32 % 256 ∷ x / 2 ^ 24 % 256 ∷ x / 2 ^ 16 % 256 ∷ x / 2 ^ 8 % 256 ∷ x % 256 ∷ []) → bytes ≡ block64 (8 * len)
+bits_of len bytes e =
+    let c : len * 8 ≡ 8 * len = omega arith in e ∙ block64-bytes (len * 8 % 2 ^ 64) ∙ (rw c (block64-mod (8 * len)))
 
 pub padding-mod : (n : ℕ) → padding (n % 2 ^ 64) ≡ padding n
 unfolding padding

@@ -30,6 +30,6 @@ later_word w m t x s h p q =
     more w m t x h p (q ∙ rw (b, e2, e7, e15, e16) refl)
 
 -- one round more
-pub round_more : (s v r : State) (w : List ℕ) (t : ℕ) → v ≡ rounds t s w → r ≡ round v (get_or K t 0) (get_or w t 0) → r ≡ rounds (t + 1) s w
+pub round_more : (s v r : State) (w : List ℕ) (t k x : ℕ) → v ≡ rounds t s w → k ≡ get_or K t 0 → x ≡ get_or w t 0 → r ≡ round v k x → r ≡ rounds (t + 1) s w
 unfolding rounds
-round_more s v r w t p q = let e : r ≡ rounds (suc t) s w = q ∙ ap (λ x. round x (get_or K t 0) (get_or w t 0)) p in rw add-one e
+round_more s v r w t k x ev ek ex er = let e : r ≡ rounds (suc t) s w = rw (← ev, ← ek, ← ex) er in rw add-one e

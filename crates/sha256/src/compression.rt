@@ -3,7 +3,7 @@ ghost use Rattle.std.specs.Prelude.{◌≡◌, ◌/◌};
 ghost use Rattle.sha256.specs.Sha256.{round, added, first_words, schedule, compressed, after_all, digest};
 
 use super::functions::{big_sigma0, big_sigma1, choose, majority, small_sigma0, small_sigma1};
-use buffers::word;
+use buffers::Piece;
 
 // Eight words: a hash value, or the working variables of a round.
 #[derive(Clone, Copy)]
@@ -83,10 +83,10 @@ impl State {
     pub fn compress(self, block: &[u8; 64]) -> State
         ensures { result ≡ compressed self block.now }
     {
-        let w = message_schedule(block);
+        let words = message_schedule(block);
         let mut v = self;
-        for t in 0..64 {
-            v = v.round(ROUND_CONSTANTS[t], w[t]);
+        for (k, w) in ROUND_CONSTANTS.iter().zip(&words) {
+            v = v.round(*k, *w);
         }
         v.plus(self)
     }
@@ -107,18 +107,11 @@ impl State {
     pub fn to_bytes(self) -> [u8; 32]
         ensures { result ≡ digest self }
     {
-        let [a0, a1, a2, a3] = self.a.to_be_bytes();
-        let [b0, b1, b2, b3] = self.b.to_be_bytes();
-        let [c0, c1, c2, c3] = self.c.to_be_bytes();
-        let [d0, d1, d2, d3] = self.d.to_be_bytes();
-        let [e0, e1, e2, e3] = self.e.to_be_bytes();
-        let [f0, f1, f2, f3] = self.f.to_be_bytes();
-        let [g0, g1, g2, g3] = self.g.to_be_bytes();
-        let [h0, h1, h2, h3] = self.h.to_be_bytes();
-        [
-            a0, a1, a2, a3, b0, b1, b2, b3, c0, c1, c2, c3, d0, d1, d2, d3, e0, e1, e2, e3, f0, f1,
-            f2, f3, g0, g1, g2, g3, h0, h1, h2, h3,
-        ]
+        let front = (self.a, (self.b, (self.c, self.d)));
+        let back = (self.e, (self.f, (self.g, self.h)));
+        let mut bytes = [0; 32];
+        (front, back).put(&mut bytes, 0);
+        bytes
     }
 }
 
@@ -127,8 +120,8 @@ fn block_words(block: &[u8; 64]) -> [u32; 64]
     ensures { first_words result ≡ schedule 16 block.now }
 {
     let mut w = [0; 64];
-    for t in 0..16 {
-        w[t] = word(block, 4 * t);
+    for (t, bytes) in block.as_chunks::<4>().0.iter().enumerate() {
+        w[t] = u32::from_be_bytes(*bytes);
     }
     w
 }
@@ -138,6 +131,7 @@ fn message_schedule(block: &[u8; 64]) -> [u32; 64]
     ensures { result ≡ schedule 64 block.now }
 {
     let mut w = block_words(block);
+    // By index, since each word is made of four before it.
     for t in 16..64 {
         w[t] = small_sigma1(w[t - 2])
             .wrapping_add(w[t - 7])

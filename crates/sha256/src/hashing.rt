@@ -5,19 +5,20 @@ ghost use Rattle.sha256.specs.Sha256.{padding, H0, compressed, after_all, digest
 ghost use Rattle.sha256.specs.Laws.{PaddingIsTheShortest};
 
 use super::compression::{INITIAL, State};
-use buffers::{put, put_zeros};
+use buffers::{Piece, Zeros};
 
-// Lays the padding of a message of `len` bytes behind the part of it that its last block begins
-// with; answers the place behind.
-pub fn put_padding(out: &mut [u8], at: usize, len: usize) -> usize
-    requires place { at ≡ len % 64 }
-    requires room { at + length (padding len) ≤ length out.old }
-    ensures { Lays out.old at (padding len) out.new result }
-{
-    let bits = (len as u64).wrapping_mul(8);
-    let next = put(out, at, &[0x80]);
-    let next = put_zeros(out, next, (119 - at) % 64);
-    put(out, next, &bits.to_be_bytes())
+// What stands behind a message of so many bytes.
+#[derive(Clone, Copy)]
+pub struct Padding(pub usize);
+
+impl Piece for Padding {
+    ghost bytes = { λ p. padding p.0 };
+
+    fn put(self, out: &mut [u8], at: usize) -> usize {
+        let Padding(len) = self;
+        let bits = (len as u64).wrapping_mul(8);
+        (&[0x80], (Zeros((119 - len % 64) % 64), &bits.to_be_bytes())).put(out, at)
+    }
 }
 
 // The digest of a message, of which `rest` is still to be hashed: `before` bytes, whole blocks,
@@ -28,11 +29,10 @@ fn finish(state: State, before: usize, rest: &[u8]) -> [u8; 32]
 {
     let len = before.wrapping_add(rest.len());
     let state = state.absorb(rest);
-    let last = rest.len() % 64;
-    let mut tail = [0u8; 128];
-    let next = put(&mut tail, 0, &rest[rest.len() - last..rest.len()]);
-    let end = put_padding(&mut tail, next, len);
-    state.absorb(&tail[0..end]).to_bytes()
+    let (_, last) = rest.as_chunks::<64>();
+    let mut tail = [0; 128];
+    let end = (last, Padding(len)).put(&mut tail, 0);
+    state.absorb(&tail[..end]).to_bytes()
 }
 
 // The digest of a message.
@@ -48,15 +48,14 @@ pub fn hash_joined(front: &[u8], message: &[u8]) -> [u8; 32]
     requires { length front.now < 64 }
     ensures { result ≡ sha256 (front.now ++ message.now) }
 {
-    let mut block = [0u8; 64];
-    let next = put(&mut block, 0, front);
-    let free = 64 - next;
+    let mut block = [0; 64];
+    let free = 64 - front.len();
     if message.len() < free {
-        let end = put(&mut block, next, message);
-        return hash(&block[0..end]);
+        let end = (front, message).put(&mut block, 0);
+        return hash(&block[..end]);
     }
     let (first, rest) = message.split_at(free);
-    put(&mut block, next, first);
+    (front, first).put(&mut block, 0);
     finish(INITIAL.compress(&block), 64, rest)
 }
 

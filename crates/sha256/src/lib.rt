@@ -5,4 +5,4 @@ mod compression;
 mod functions;
 mod hashing;
 
-pub use hashing::{hash, hash_block, hash_joined, put_padding};
+pub use hashing::{Padding, hash, hash_block, hash_joined};

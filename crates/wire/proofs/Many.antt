@@ -10,9 +10,6 @@ module _ (one : ℕ → Result ℕ Malformed) where
   pub many_ok : (n m at end : ℕ) → n ≡ suc m → one at ≡ Ok end → many_end one m end ≡ many_end one n at
   many_ok n m at end h e = rw (h, e)
 
-  pub many_err : (n m at : ℕ) (f : Malformed) → n ≡ suc m → one at ≡ Err f → many_end one n at ≡ Err f
-  many_err n m at f h e = rw (h, e)
-
 -- the place behind is that of the reading
 module _ {A : Type 0} (one : ℕ → Result (A × ℕ) Malformed) where
   more : (x : A) (r : Result (List A × ℕ) Malformed) → behind (bind r (λ q. Ok (x ∷ q.0, q.1))) ≡ behind r

@@ -8,7 +8,7 @@ use buffers::Piece;
 use values::{Report, Value};
 
 // The three words behind the kind word of every statement.
-#[derive(Clone, Copy)]
+#[derive(Clone, Copy, Debug, PartialEq, Eq)]
 pub struct Head {
     pub round: u32,
     pub view: u32,
@@ -16,21 +16,21 @@ pub struct Head {
 }
 
 // The site stands for a value: proposes, prepares or commits it.
-#[derive(Clone, Copy)]
+#[derive(Clone, Copy, Debug, PartialEq, Eq)]
 pub struct Claim {
     pub head: Head,
     pub value: Value,
 }
 
 // The site has moved to the view, and reports what it last prepared and committed.
-#[derive(Clone, Copy)]
+#[derive(Clone, Copy, Debug, PartialEq, Eq)]
 pub struct ViewChange {
     pub head: Head,
     pub prepared: Option<Report>,
     pub committed: Option<Report>,
 }
 
-#[derive(Clone, Copy)]
+#[derive(Clone, Copy, Debug, PartialEq, Eq)]
 pub enum Statement {
     Propose(Claim),
     Prepare(Claim),

@@ -1,16 +1,12 @@
-use Rattle.std.proofs.Common.{arith}
-use Rattle.lms.proofs.Chains.{checksum_le, checksum_step, checksum_done}
+use Rattle.std.proofs.Common.{arith, rules, tests}
+use Rattle.std.proofs.lemmas.Iterator.{YieldsList-from_slice}
+use Rattle.std.proofs.lemmas.Iterator.Adapters.{fits_from_length, at_most_from_yields_List}
+use Rattle.lms.proofs.Chains.{checksum_is}
 use Rattle.lms.proofs.one_time.checksum.Goals as goal
 
-pub overflow_add-sum : goal.overflow_add-sum
-overflow_add-sum c =
-    omega (arith, checksum_step c.args.digest.now c.loop-b.b-index c.loop-b-test.true, checksum_le c.args.digest.now)
-
-pub loop-b-init : goal.loop-b-init
-loop-b-init c = omega arith
-
-pub loop-b-preserved : goal.loop-b-preserved
-loop-b-preserved c = omega (arith, checksum_step c.args.digest.now c.loop-b.b-index c.loop-b-test.true)
+pub sum-requires-clause-fits : goal.sum-requires-clause-fits
+sum-requires-clause-fits c =
+    fits_from_length _ _ 32 _ (at_most_from_yields_List (YieldsList-from_slice c.args.digest.now (cc)) (omega arith)) c.map.ensures.closure (omega arith) (λ x r q k. search (rules, tests))
 
 pub returns : goal.returns
-returns c = omega (arith, checksum_done c.args.digest.now c.loop-b.b-index c.loop-b-test.false)
+returns c = search (rules, checksum_is)

@@ -1,5 +1,5 @@
-use Rattle.std.proofs.Common.{◌≡◌, take, sym, ◌∙◌, arith}
-use Rattle.std.proofs.lemmas.List.{length-set, take_all}
+use Rattle.std.proofs.Common.{◌∙◌, arith}
+use Rattle.std.proofs.lemmas.List.{length-set}
 use Rattle.sha256.proofs.Schedule.{later_word}
 use Rattle.sha256.proofs.compression.message_schedule.Goals as goal
 
@@ -8,9 +8,3 @@ loop-t-preserved c = (
   length-set _ _ _ ∙ c.loop-t.invariant.0,
   later_word c.loop-t.w c.args.block.now c.loop-t.t _ (omega arith) (omega arith) c.loop-t.invariant.1 (cc),
 )
-
-pub returns : goal.returns
-returns c =
-    let e : c.loop-t.t ≡ 64 = omega arith in
-    let t : take 64 c.loop-t.w ≡ c.loop-t.w = take_all 64 c.loop-t.w (omega arith) in
-    sym t ∙ rw e at c.loop-t.invariant.1

@@ -1,16 +1,12 @@
-use Rattle.std.proofs.Common.{◌≡◌, ℕ, ◌+◌, ◌-◌, List, ◌++◌, length, take, sym, refl, ap, ◌∙◌, append_assoc, arith, length-append}
-use Rattle.buffers.proofs.Laying.{then, fronted, filled}
+use Rattle.std.proofs.Common.{◌≡◌, ℕ, ◌+◌, List, ◌++◌, length, sym, refl, ap, ◌∙◌, append_assoc, arith, length-append}
+use Rattle.buffers.proofs.Laying.{fronted, filled}
 use Rattle.sha256.specs.declared.compression.State.{State}
 use Rattle.sha256.specs.Sha256.{padding, H0, compressed, after_all, digest, sha256}
 use Rattle.sha256.proofs.Blocks.{first_block}
 use Rattle.sha256.proofs.hashing.hash_joined.Goals as goal
 
 pub returns-then-message-free : goal.returns-then-message-free
-returns-then-message-free c =
-    let z : c.put-end.result - 0 ≡ c.put-end.result = omega arith in
-    c.hash.ensures.value
-    ∙ ap (λ n. sha256 (take n c.put-end.new.out)) z
-    ∙ ap sha256 (fronted (then c.put-next.ensures.after c.put-end.ensures.after))
+returns-then-message-free c = c.hash.ensures.value ∙ ap sha256 (fronted c.put-end.ensures.after)
 
 -- the first block, and then the rest of the message
 joined : (front first rest message block digested : List ℕ) (s : State) → message ≡ first ++ rest → block ≡ front ++ first → length block ≡ 64 → s ≡ compressed H0 block → digested ≡ digest (after_all s (rest ++ padding (64 + length rest))) → digested ≡ sha256 (front ++ message)
@@ -24,7 +20,7 @@ joined front first rest message block digested s em eb h es ed =
 
 pub returns : goal.returns
 returns c =
-    let block = filled (then c.put-next.ensures.after c.put.ensures.after) (omega (arith, c.put.ensures.next, c.put-next.ensures.next, c.split_at.ensures.front_len)) in
+    let block = filled c.put.ensures.after (omega (arith, c.put.ensures.next, length-append c.args.front.now c.split_at.result.0.now, c.split_at.ensures.front_len)) in
     joined c.args.front.now c.split_at.result.0.now c.split_at.result.1.now c.args.message.now c.put.new.out c.finish.result c.compress.result
     c.split_at.ensures.by_index.0
     block

@@ -1,4 +1,4 @@
-use Rattle.std.proofs.Common.{◌≡◌, ◌/◌, ◌<◌, length, refl, arith}
+use Rattle.std.proofs.Common.{◌/◌, ◌<◌, length, refl, arith}
 use Rattle.sha256.specs.Sha256.{after}
 use Rattle.sha256.proofs.Blocks.{block_more}
 use Rattle.sha256.proofs.compression.State.absorb.Goals as goal
@@ -15,8 +15,3 @@ loop-block-preserved c =
     h
     c.loop-block.invariant
     c.compress-state.ensures
-
-pub returns : goal.returns
-returns c =
-    let k : c.loop-block.block-index ≡ length c.args.bytes.now / 64 = omega (arith, c.as_chunks.ensures.front_len) in
-    rw k at c.loop-block.invariant
