@@ -9,7 +9,7 @@ use anyhow::anyhow;
 use line::Task;
 use packets::seal;
 use page::Page;
-use pieces::{Grouped, Meant};
+use pieces::{Grouped, Meant, Unread};
 use std::env;
 use std::io::{BufRead, BufReader};
 use values::TagLimit;
@@ -79,7 +79,7 @@ impl<'a> Explainer<'a> {
         match Task::read(rt.alloc(), text) {
             Ok(Task::Explain { packet }) => self.explain_packet(packet.as_slice(), 2),
             Ok(Task::Seal { draft, tag }) => self.explain_draft(draft.as_slice(), tag.as_slice()),
-            Err(bad) => Ok(println!(rt; "{bad}")?),
+            Err(bad) => Ok(println!(rt; "{}", Unread(bad))?),
         }
     }
 }

@@ -1,4 +1,5 @@
 // Pieces of the lines, by the values that they show.
+use hexadecimal::BadText;
 use std::fmt;
 use values::{Angle, Fix, Refusal, Report};
 use wire::{Head, Part};
@@ -107,6 +108,19 @@ impl fmt::Display for Meant {
             Refusal::IllegalFix { .. } => "the fix there is not legal",
         };
         write!(f, "{refusal}: {meaning}")
+    }
+}
+
+// Why a line is not read. That it is bad is not said where memory fails.
+#[derive(Clone, Copy)]
+pub struct Unread(pub BadText);
+
+impl fmt::Display for Unread {
+    fn fmt<W: fmt::Write>(&self, f: &mut fmt::Formatter<W>) -> fmt::Result {
+        match self.0 {
+            BadText::NoMemory => write!(f, "{}", self.0),
+            bad => write!(f, "bad line: {bad}"),
+        }
     }
 }
 
