@@ -22,68 +22,42 @@ const NEW_VIEW: [u8; 44] =
 
 // The place of a layout fault, or none where the packet is read.
 fn fault(rt: &impl Abort, packet: &[u8]) -> Result<Option<usize>, Fail> {
-    let Ok(limit) = TagLimit::new(4) else {
-        return Err(Fail::new("no limit"));
+    let Err(refusal) = read(packet, TagLimit::new(4)?) else {
+        return Ok(None);
     };
-    match read(packet, limit) {
-        Ok(_) => Ok(None),
-        Err(refusal) => {
-            assert!(rt; refusal.number() == 3);
-            Ok(refusal.place())
-        }
-    }
-}
-
-// A packet with one byte changed.
-fn damaged<const N: usize>(
-    rt: &impl Abort,
-    packet: [u8; N],
-    at: usize,
-    byte: u8,
-) -> Result<Option<usize>, Fail> {
-    let mut copy = packet;
-    if at < copy.len() {
-        copy[at] = byte;
-    }
-    fault(rt, &copy)
+    assert_eq!(rt; refusal.number(), 3);
+    Ok(refusal.place())
 }
 
 #[test]
 fn prepare_is_read(rt: HostRuntime) -> Result<(), Fail> {
-    let Ok(limit) = TagLimit::new(4) else {
-        return Err(Fail::new("no limit"));
-    };
-    let Ok(Message::Prepare { claim, tag }) = read(&PREPARE, limit) else {
+    let Message::Prepare { claim, tag } = read(&PREPARE, TagLimit::new(4)?)? else {
         return Err(Fail::new("no prepare"));
     };
     assert!(rt; claim.head.round == 9 && claim.head.view == 1 && claim.head.site == 1);
-    let fix = Fix::of(claim.value);
+    let fix = Fix::from(claim.value);
     assert!(rt; fix.track == 7 && fix.longitude == 600000 && fix.latitude == 30000000);
-    assert!(rt; tag.place == 28 && tag.bytes == [1u8, 2, 3, 4].as_slice());
+    assert!(rt; tag.place == 28 && tag.bytes == [1, 2, 3, 4].as_slice());
     Ok(())
 }
 
 #[test]
 fn certificates_have_places(rt: HostRuntime) -> Result<(), Fail> {
-    let Ok(limit) = TagLimit::new(4) else {
-        return Err(Fail::new("no limit"));
-    };
-    let Ok(Message::Commit { certificate, .. }) = read(&COMMIT, limit) else {
+    let limit = TagLimit::new(4)?;
+    let Message::Commit { certificate, .. } = read(&COMMIT, limit)? else {
         return Err(Fail::new("no commit"));
     };
     assert!(rt; certificate.place == 32 && certificate.bytes.len() == 16);
-    let Ok(Message::Propose { progress, tag, .. }) = read(&PROPOSE, limit) else {
+    let Message::Propose { progress, tag, .. } = read(&PROPOSE, limit)? else {
         return Err(Fail::new("no propose"));
     };
-    assert!(rt; tag.bytes == [0xabu8, 0xcd].as_slice());
+    assert!(rt; tag.bytes == [0xab, 0xcd].as_slice());
     assert!(rt; progress.place == 36 && progress.bytes.len() == 4);
-    let Ok(
-        Message::NewView {
-            change,
-            tag,
-            certificate,
-        },
-    ) = read(&NEW_VIEW, limit)
+    let Message::NewView {
+        change,
+        tag,
+        certificate,
+    } = read(&NEW_VIEW, limit)?
     else {
         return Err(Fail::new("no new-view"));
     };
@@ -94,13 +68,9 @@ fn certificates_have_places(rt: HostRuntime) -> Result<(), Fail> {
 
 // Every cut at a word is refused at that word, but inside a tag at its length word.
 fn cuts(rt: &impl Abort, packet: &[u8], tag: usize) -> Result<(), Fail> {
-    for k in 0..packet.len() / 4 {
-        let place = if k * 4 == tag.saturating_add(4) {
-            tag
-        } else {
-            k * 4
-        };
-        assert!(rt; fault(rt, &packet[0..k * 4])? == Some(place));
+    for at in (0..packet.len()).step_by(4) {
+        let place = if at == tag.saturating_add(4) { tag } else { at };
+        assert_eq!(rt; fault(rt, &packet[..at])?, Some(place));
     }
     Ok(())
 }
@@ -113,29 +83,30 @@ fn cut_at_each_word(rt: HostRuntime) -> Result<(), Fail> {
     cuts(&rt, &NEW_VIEW, 40)
 }
 
+// A packet with one byte changed is refused at a place.
+fn damaged<const N: usize>(
+    rt: &impl Abort,
+    packet: [u8; N],
+    at: usize,
+    byte: u8,
+    place: usize,
+) -> Result<(), Fail> {
+    let mut copy = packet;
+    *copy.get_mut(at).ok_or("no such byte")? = byte;
+    assert_eq!(rt; fault(rt, &copy)?, Some(place), "byte {at} is {byte}");
+    Ok(())
+}
+
 #[test]
 fn damaged_packets(rt: HostRuntime) -> Result<(), Fail> {
     assert!(rt; fault(&rt, &PREPARE)?.is_none() && fault(&rt, &COMMIT)?.is_none());
-    assert!(rt; damaged(&rt, PREPARE, 3, 5)? == Some(0), "kind 5");
-    assert!(rt;
-        damaged(&rt, PREPARE, 31, 5)? == Some(28),
-        "a tag of 5 bytes"
-    );
-    assert!(rt;
-        damaged(&rt, PREPARE, 31, 3)? == Some(28),
-        "filled with a 4"
-    );
-    assert!(rt; damaged(&rt, PREPARE, 31, 0)? == Some(32), "left over");
-    assert!(rt; damaged(&rt, COMMIT, 35, 17)? == Some(32), "a count of 17");
-    assert!(rt;
-        damaged(&rt, COMMIT, 35, 16)? == Some(48),
-        "a count of 16, cut"
-    );
-    assert!(rt; damaged(&rt, COMMIT, 45, 1)? == Some(40), "filled with a 1");
-    assert!(rt; damaged(&rt, NEW_VIEW, 19, 2)? == Some(16), "a bool of 2");
-    assert!(rt;
-        damaged(&rt, NEW_VIEW, 39, 1)? == Some(44),
-        "a committed view, cut"
-    );
-    Ok(())
+    damaged(&rt, PREPARE, 3, 5, 0)?; // kind 5
+    damaged(&rt, PREPARE, 31, 5, 28)?; // a tag of 5 bytes
+    damaged(&rt, PREPARE, 31, 3, 28)?; // filled with a 4
+    damaged(&rt, PREPARE, 31, 0, 32)?; // left over
+    damaged(&rt, COMMIT, 35, 17, 32)?; // a count of 17
+    damaged(&rt, COMMIT, 35, 16, 48)?; // a count of 16, cut
+    damaged(&rt, COMMIT, 45, 1, 40)?; // filled with a 1
+    damaged(&rt, NEW_VIEW, 19, 2, 16)?; // a bool of 2
+    damaged(&rt, NEW_VIEW, 39, 1, 44) // a committed view, cut
 }

@@ -1,116 +1,130 @@
 // The bytes of the formats.
+use super::line::{Line, Readable, UnknownWord};
 use super::tally::Tally;
-use super::words::{bytes, expect, number, signed_number, word};
 use anyhow::anyhow;
 use checks::register_row;
 use packets::{draft, read, seal, write};
-use values::{Fix, TagLimit};
+use std::str::FromStr;
+use values::{Fix, Refusal, TagLimit};
 use wire::{Claim, Head, Statement};
 
 // Room for any message that the lines have.
 const ROOM: usize = 65536;
 
-fn room(rt: &HostRuntime) -> anyhow::Result<Vec<u8>> {
-    Ok(vec![in rt.alloc(); 0u8; ROOM]?)
+// Whether what is written into a buffer is what is expected; a refusal is not.
+fn writes<F: FnOnce(&mut [u8]) -> Result<usize, Refusal>>(
+    line: Line<'_>,
+    expected: &[u8],
+    write: F,
+) -> anyhow::Result<bool>
+    requires { F.IsAlwaysCallable write }
+{
+    let mut out = vec![in line.heap; 0u8; ROOM]?;
+    let len = write(out.as_mut_slice());
+    Ok(len.is_ok_and(|len| out.as_slice().get(..len) == Some(expected)))
 }
 
-fn same(a: &[u8], b: &[u8]) -> bool {
-    a == b
+fn limit(line: Line<'_>, at: usize) -> anyhow::Result<TagLimit> {
+    let bytes = line.read::<u32>(at)? as usize;
+    TagLimit::new(bytes).map_err(|_| anyhow!("no tag limit"))
 }
 
-// Whether so many bytes at the start of `out` are the expected ones.
-fn starts_so(out: &[u8], len: usize, expected: &[u8]) -> bool {
-    len <= out.len() && same(&out[0..len], expected)
+// The kinds of statements that the lines have.
+#[derive(Clone, Copy)]
+enum Kind {
+    Propose,
+    Prepare,
+    Commit,
 }
 
-fn limit_of(words: &[&str], at: usize) -> anyhow::Result<TagLimit> {
-    match TagLimit::new(number(words, at)? as usize) {
-        Ok(limit) => Ok(limit),
-        Err(_) => Err(anyhow!("no tag limit")),
+impl FromStr for Kind {
+    type Err = UnknownWord;
+
+    fn from_str(name: &str) -> Result<Kind, UnknownWord> {
+        match name {
+            "propose" => Ok(Kind::Propose),
+            "prepare" => Ok(Kind::Prepare),
+            "commit" => Ok(Kind::Commit),
+            _ => Err(UnknownWord),
+        }
     }
 }
 
-fn statement_of(kind: &str, claim: Claim) -> anyhow::Result<Statement> {
-    match kind {
-        "propose" => Ok(Statement::Propose(claim)),
-        "prepare" => Ok(Statement::Prepare(claim)),
-        "commit" => Ok(Statement::Commit(claim)),
-        _ => Err(anyhow!("no such kind")),
+impl Readable for Kind {
+    const OTHERWISE: &'static str = "no such kind";
+}
+
+impl Kind {
+    fn statement(self, claim: Claim) -> Statement {
+        match self {
+            Kind::Propose => Statement::Propose(claim),
+            Kind::Prepare => Statement::Prepare(claim),
+            Kind::Commit => Statement::Commit(claim),
+        }
     }
 }
 
 // statement KIND ROUND VIEW SITE TRACK LONGITUDE LATITUDE BYTES
-pub fn run_statement(rt: &HostRuntime, words: &[&str], tally: &mut Tally) -> anyhow::Result<()> {
-    expect(words, 9)?;
-    let kind = word(words, 1)?;
+pub fn run_statement(line: Line<'_>, tally: &mut Tally<'_>) -> anyhow::Result<()> {
+    line.expect(9)?;
+    let name = line.word(1)?;
     let head = Head {
-        round: number(words, 2)?,
-        view: number(words, 3)?,
-        site: number(words, 4)?,
+        round: line.read(2)?,
+        view: line.read(3)?,
+        site: line.read(4)?,
     };
     let fix = Fix {
-        track: number(words, 5)?,
-        longitude: signed_number(words, 6)?,
-        latitude: signed_number(words, 7)?,
+        track: line.read(5)?,
+        longitude: line.read(6)?,
+        latitude: line.read(7)?,
     };
-    let value = fix.words();
-    let statement = statement_of(kind, Claim { head, value })?;
-    let expected = bytes(rt, words, 8)?;
-    let mut out = room(rt)?;
-    print!(rt; "statement: {kind}")?;
-    match draft(statement, &[], out.as_mut_slice()) {
-        Ok(len) => tally.note(rt, starts_so(out.as_slice(), len, expected.as_slice())),
-        Err(_) => tally.note(rt, false),
-    }
+    let kind: Kind = line.read(1)?;
+    let statement = kind.statement(Claim {
+        head,
+        value: fix.into(),
+    });
+    let expected = line.bytes(8)?;
+    let right = writes(line, expected.as_slice(), |out| draft(statement, &[], out))?;
+    tally.note(format_args!("statement: {name}"), right)
 }
 
 // seal L DRAFT TAG MESSAGE
-pub fn run_seal(rt: &HostRuntime, words: &[&str], tally: &mut Tally) -> anyhow::Result<()> {
-    expect(words, 5)?;
-    let limit = limit_of(words, 1)?;
-    let drafted = bytes(rt, words, 2)?;
-    let tag = bytes(rt, words, 3)?;
-    let expected = bytes(rt, words, 4)?;
-    let mut out = room(rt)?;
-    print!(rt; "sealed draft")?;
-    match seal(
-        drafted.as_slice(),
-        tag.as_slice(),
-        limit,
-        out.as_mut_slice(),
-    ) {
-        Ok(len) => tally.note(rt, starts_so(out.as_slice(), len, expected.as_slice())),
-        Err(_) => tally.note(rt, false),
-    }
+pub fn run_seal(line: Line<'_>, tally: &mut Tally<'_>) -> anyhow::Result<()> {
+    line.expect(5)?;
+    let limit = limit(line, 1)?;
+    let drafted = line.bytes(2)?;
+    let tag = line.bytes(3)?;
+    let expected = line.bytes(4)?;
+    let right = writes(line, expected.as_slice(), |out| {
+        seal(drafted.as_slice(), tag.as_slice(), limit, out)
+    })?;
+    tally.note("sealed draft", right)
 }
 
 // packet L PACKET: what is read from it is written back as the same bytes.
-pub fn run_packet(rt: &HostRuntime, words: &[&str], tally: &mut Tally) -> anyhow::Result<()> {
-    expect(words, 3)?;
-    let limit = limit_of(words, 1)?;
-    let packet = bytes(rt, words, 2)?;
+pub fn run_packet(line: Line<'_>, tally: &mut Tally<'_>) -> anyhow::Result<()> {
+    line.expect(3)?;
+    let limit = limit(line, 1)?;
+    let packet = line.bytes(2)?;
+    let packet = packet.as_slice();
+    let right = writes(line, packet, |out| write(read(packet, limit)?, limit, out))?;
     let len = packet.len();
-    let mut out = room(rt)?;
-    print!(rt; "packet of {len} bytes, read and written")?;
-    match read(packet.as_slice(), limit) {
-        Ok(message) => match write(message, limit, out.as_mut_slice()) {
-            Ok(len) => tally.note(rt, starts_so(out.as_slice(), len, packet.as_slice())),
-            Err(_) => tally.note(rt, false),
-        },
-        Err(_) => tally.note(rt, false),
-    }
+    tally.note(
+        format_args!("packet of {len} bytes, read and written"),
+        right,
+    )
 }
 
-// row SITE STATEMENT ROW
-pub fn run_row(rt: &HostRuntime, words: &[&str], tally: &mut Tally) -> anyhow::Result<()> {
-    expect(words, 4)?;
-    let site = number(words, 1)?;
-    let statement = bytes(rt, words, 2)?;
-    let expected = bytes(rt, words, 3)?;
+// row SITE STATEMENT ROW; `-` where the statement has none.
+pub fn run_row(line: Line<'_>, tally: &mut Tally<'_>) -> anyhow::Result<()> {
+    line.expect(4)?;
+    let site = line.read(1)?;
+    let statement = line.bytes(2)?;
+    let expected = line.bytes(3)?;
+    let row = register_row(site, statement.as_slice());
+    let right = row.map_or(expected.is_empty(), |row| {
+        row.as_slice() == expected.as_slice()
+    });
     let len = statement.len();
-    print!(rt; "register row of {len} bytes")?;
-    match register_row(site, statement.as_slice()) {
-        Some(row) => tally.note(rt, same(&row, expected.as_slice())),
-        None => tally.note(rt, expected.is_empty()),
-    }
+    tally.note(format_args!("register row of {len} bytes"), right)
 }
