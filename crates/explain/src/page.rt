@@ -134,7 +134,8 @@ impl<'a> Page<'a> {
         Ok(())
     }
 
-    // A progress certificate, as whole: each new-view, under it.
+    // A progress certificate, as whole: each new-view, under it. A loop shared with commit
+    // certificates would take two closures, and be no shorter.
     fn progress(self, place: usize) -> io::Result<()> {
         let Ok(count) = self.packet.word_at(place) else {
             return Ok(());

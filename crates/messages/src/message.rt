@@ -51,7 +51,8 @@ fn read_as<K: Kind>(packet: Packet<'_>) -> Result<Message<'_>, Malformed>
     Ok(K::message(envelope))
 }
 
-// The whole packet as one of the four messages.
+// The whole packet as one of the four messages. An enum of the kinds' numbers would be matched
+// once more.
 #[tactic(auto, unfolding(wire::specs::Layout::message_of))]
 pub fn read_message(packet: Packet<'_>) -> Result<Message<'_>, Malformed>
     ensures { map_ok told result ≡ map_ok (locate packet.entry.bytes.now) (message_of packet.entry.limit.bytes packet.entry.bytes.now) }

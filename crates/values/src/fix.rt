@@ -40,6 +40,7 @@ pub struct Angle {
 }
 
 impl Angle {
+    // Named, since a plain number does not say what it counts.
     pub fn of(size: u32) -> Angle
         ensures { result ≡ angle_of size }
     {

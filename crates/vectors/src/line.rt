@@ -60,6 +60,7 @@ impl<'a> Line<'a> {
         }
     }
 
+    // Two words, as plain as an enum of them would be.
     pub fn answer(self, at: usize) -> anyhow::Result<bool> {
         match self.word(at)? {
             "yes" => Ok(true),

@@ -14,7 +14,8 @@ pub struct Entry<'a> {
     pub tag: Part<'a>,
 }
 
-// What a count word counts.
+// What a count word counts. A closure in its place would leave it to each call to say what its
+// answer means and that it lies in the packet; here each type says so once.
 pub trait Counted {
     ghost ends: { ℕ → List ℕ → ℕ → Result ℕ Malformed };
 
