@@ -85,3 +85,13 @@ impl<P: Piece> Piece for Option<P> {
         }
     }
 }
+
+// The bytes of a piece, where their number is known.
+pub fn array<const N: usize, P: Piece>(piece: P) -> [u8; N]
+    requires { length (P.bytes piece) ≡ N }
+    ensures { result ≡ P.bytes piece }
+{
+    let mut bytes = [0; N];
+    piece.put(&mut bytes, 0);
+    bytes
+}

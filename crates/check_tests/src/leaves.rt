@@ -1,14 +1,12 @@
 // The register and the LMS keys.
 use super::signature::{KEY, STATEMENT, TAG};
-use buffers::Piece;
+use buffers::array;
 use checks::{Check, LmsKeys, Register, register_row};
 use std::test::Fail;
 
 // A register of three rows: site 1 said "abc", site 2 said nothing, site 16 said 64 bytes.
 pub fn three_rows() -> Result<[u8; 216], Fail> {
-    let mut rows = [0; 216];
-    (&row(1, b"abc")?, (&row(2, b"")?, &row(16, &[7; 64])?)).put(&mut rows, 0);
-    Ok(rows)
+    Ok(array((&row(1, b"abc")?, (&row(2, b"")?, &row(16, &[7; 64])?))))
 }
 
 pub fn row(site: u32, statement: &[u8]) -> Result<[u8; 72], Fail> {

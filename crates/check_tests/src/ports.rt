@@ -2,14 +2,13 @@
 use super::leaves::{FIRST, SECOND, one_key, row};
 use super::revocations::{NONE, only};
 use super::signature::{KEY, STATEMENT, TAG};
-use buffers::Piece;
+use buffers::array;
 use checks::{Check, PortPrefix, Register, RevocationList, ShippedCheck};
 use std::test::Fail;
 
 #[test]
 fn port_over_register(rt: HostRuntime) -> Result<(), Fail> {
-    let mut rows = [0; 144];
-    (&row(1, b"\x01\x02\x03\x04abc")?, &row(1, &[9; 64])?).put(&mut rows, 0);
+    let rows: [u8; 144] = array((&row(1, b"\x01\x02\x03\x04abc")?, &row(1, &[9; 64])?));
     let port = PortPrefix::new(0x01020304, Register::new(&rows));
     assert!(rt; port.vouches(1, b"abc", &FIRST));
     assert!(rt;

@@ -1,7 +1,8 @@
 -- The rows of a register.
-use Rattle.std.proofs.Common.{◌≡◌, ℕ, ◌+◌, ◌-◌, ◌*◌, ◌/◌, ◌<◌, ◌≤◌, Bor, Option, Bool, true, false, cond, leb, List, ◌++◌, length, take, drop, replicate, Some, None, sym, refl, ap, ◌∙◌, arith, length-append, length-drop, length-take}
-use Rattle.std.proofs.lemmas.List.{drop_at, take_at, drop-replicate, length-replicate}
+use Rattle.std.proofs.Common.{◌≡◌, ℕ, ◌+◌, ◌*◌, ◌/◌, ◌<◌, ◌≤◌, Bor, Option, Bool, true, false, leb, List, ◌++◌, length, take, drop, Some, None, sym, refl, ap, ◌∙◌, arith, length-append, length-drop, length-take}
+use Rattle.std.proofs.lemmas.List.{drop_at, take_at, length-replicate}
 use Rattle.std.proofs.lemmas.Bool.{le-leb, leb-true, eq-eqb}
+use Rattle.std.proofs.lemmas.Option.{cond_some}
 use Rattle.std.specs.Str.{bytes_eq}
 use Rattle.std.specs.Simd.{first_chunks}
 use Rattle.std.specs.Option.{option_eq}
@@ -9,18 +10,9 @@ use Rattle.std.specs.Slice.{IsItemAt}
 use Rattle.lms.specs.Lms.{nth}
 use Rattle.lms.proofs.Texts.{chunk_is}
 use Rattle.buffers.specs.Words.{word_from, word_bytes}
-use Rattle.buffers.specs.Lays.{Lays}
 use Rattle.buffers.proofs.Equal.{equal, apart}
 use Rattle.buffers.proofs.Held.{whole, word_held}
-use Rattle.buffers.proofs.Laying.{from_start}
 use Rattle.checks.specs.Registers.{row_bytes, row_of, row_at, registered, RowsAreVouched}
-
--- a row that was written over zeros
-pub row_is : {row : List ℕ} {n : ℕ} (site : ℕ) (m : List ℕ) → length m ≤ 64 → Lays (replicate 72 0) 0 (word_bytes site ++ (word_bytes (length m) ++ m)) row n → row ≡ row_bytes site m
-row_is {row} {n} site m h l =
-    let written = word_bytes site ++ (word_bytes (length m) ++ m) in
-    let k : 72 - length written ≡ 64 - length m = omega arith in
-    from_start l ∙ ap (λ d. written ++ d) (drop-replicate {X = ℕ} (length written) 72 0 ∙ ap (λ k. replicate k 0) k)
 
 pub length-row : (site : ℕ) (m : List ℕ) → length m ≤ 64 → length (row_bytes site m) ≡ 72
 length-row site m h = simp (length-append, length-replicate) (omega arith)
@@ -30,22 +22,18 @@ pub no_row : (rows : List ℕ) (k site : ℕ) (m : List ℕ) → length m ≤ 64
 no_row rows k site m h cut =
     apart (row_at rows k) (row_bytes site m) (λ e. omega (arith, ap length e, length-row site m h, length-take 72 (drop (72 * k) rows), length-drop (72 * k) rows))
 
--- a statement that has a row is short enough
-row_made : (row x : List ℕ) (b : Bool) → Some row ≡ cond b (Some x) None → (b ≡ true) × (row ≡ x)
-row_made row x true e = (refl, cc)
-row_made row x false e = absurd (let z : ◌≡◌ {A = ℕ} 0 1 = cc in omega arith)
-
 module _ (rows : List ℕ) (site : ℕ) (m tag row : List ℕ) (k : ℕ) (has : Some row ≡ row_of site m) (four : length tag ≡ 4) (names : k ≡ word_from tag 0) where
-  made : (leb (length m) 64 ≡ true) × (row ≡ row_bytes site m)
-  made = row_made row (row_bytes site m) (leb (length m) 64) has
+  -- a statement that has a row is short enough
+  made : (leb (length m) 64 ≡ true) × (row_bytes site m ≡ row)
+  made = cond_some (leb (length m) 64) (row_bytes site m) row (sym has)
 
   -- the register vouches for the statement if the row that the tag names is the statement's
   pub vouched_by_row : bytes_eq (row_at rows k) row ≡ registered rows site m tag
-  vouched_by_row = rw (made.0, eq-eqb (length tag) 4 four, made.1, names) refl
+  vouched_by_row = rw (made.0, eq-eqb (length tag) 4 four, sym made.1, names) refl
 
   pub past_the_end : length rows < 72 * k + 72 → false ≡ registered rows site m tag
   past_the_end cut =
-      sym (no_row rows k site m (leb-true (length m) 64 made.0) cut) ∙ ap (bytes_eq (row_at rows k)) (sym made.1) ∙ vouched_by_row
+      sym (no_row rows k site m (leb-true (length m) 64 made.0) cut) ∙ ap (bytes_eq (row_at rows k)) made.1 ∙ vouched_by_row
 
   -- what code finds of the row that the tag names
   pub found_row : (cs : List (List ℕ)) (found : Option (Bor (List ℕ))) (its : Bor (List ℕ)) (r : Bool) → cs ≡ first_chunks 72 (length rows / 72) rows → length cs ≡ length rows / 72 → its.now ≡ row → IsItemAt cs k found → r ≡ option_eq (λ (x y : Bor (List ℕ)). bytes_eq x.now y.now) found (Some its) → r ≡ registered rows site m tag

@@ -3,7 +3,7 @@ ghost use Rattle.std.specs.Prelude.{◌≡◌};
 ghost use Rattle.checks.specs.Registers.{row_of, registered, Short-registered, RowsAreVouched};
 
 use super::check::Check;
-use buffers::{Piece, word};
+use buffers::{Zeros, array, word};
 
 // Rows of a site, a statement's length, and the statement filled with zeros to 64 bytes. A tag is
 // the number of a row, counted from 0.
@@ -25,12 +25,11 @@ impl<'a> Register<'a> {
 pub fn register_row(site: u32, statement: &[u8]) -> Option<[u8; 72]>
     ensures { result ≡ row_of site statement.now }
 {
-    if statement.len() > 64 {
+    let len = statement.len();
+    if len > 64 {
         return None;
     }
-    let mut row = [0; 72];
-    (site, (statement.len() as u32, statement)).put(&mut row, 0);
-    Some(row)
+    Some(array((site, (len as u32, (statement, Zeros(64 - len))))))
 }
 
 impl Check for Register<'_> {

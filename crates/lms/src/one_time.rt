@@ -4,7 +4,7 @@ ghost use Rattle.std.specs.Prelude.{◌≡◌, ◌-◌, ◌≤◌, ◌++◌};
 ghost use Rattle.lms.specs.Lms.{u32str, Cksm, Q, summed, D-PBLC, chain, ends, hashed, Kc};
 
 use super::parts::SignatureParts;
-use buffers::Piece;
+use buffers::{Piece, array};
 use sha256::{Padding, hash, hash_block, hash_joined};
 
 // The end of chain `i`, from the string that stands at a step of it. Each step hashes one block.
@@ -15,9 +15,7 @@ fn chain_end<const N: usize>(start: &[u8; 20], i: u16, step: u8, string: &[u8; N
     let mut reached = *string;
     for j in step..255 {
         let text = (start, (&i.to_be_bytes(), (&[j], &reached)));
-        let mut block = [0; 64];
-        (text, Padding(23 + N)).put(&mut block, 0);
-        let hash = hash_block(&block);
+        let hash = hash_block(&array((text, Padding(23 + N))));
         reached.copy_from_slice(&hash[..N]);
     }
     reached
@@ -34,12 +32,9 @@ fn checksum(digest: &[u8; 32]) -> u16
 fn first_steps(start: &[u8; 20], randomizer: &[u8; 32], message: &[u8]) -> [u8; 34]
     ensures { result ≡ summed (Q 32 start.now randomizer.now message.now) }
 {
-    let mut text = [0; 54];
-    (start, (&[0x81, 0x81], randomizer)).put(&mut text, 0);
+    let text: [u8; 54] = array((start, (&[0x81, 0x81], randomizer)));
     let digest = hash_joined(&text, message);
-    let mut steps = [0; 34];
-    (&digest, &checksum(&digest).to_be_bytes()).put(&mut steps, 0);
-    steps
+    array((&digest, &checksum(&digest).to_be_bytes()))
 }
 
 // The hash of the ends of the 34 chains, as one string.
@@ -60,8 +55,7 @@ fn hash_ends(start: &[u8; 20], steps: &[u8; 34], strings: &[u8; 1088]) -> [u8; 3
 pub fn one_time_key(id: &[u8; 16], signed: &SignatureParts, message: &[u8]) -> [u8; 32]
     ensures { result ≡ Kc 32 34 (id.now ++ u32str signed.now.leaf) signed.now.randomizer.now signed.now.strings.now message.now }
 {
-    let mut start = [0; 20];
-    (id, signed.leaf).put(&mut start, 0);
+    let start = array((id, signed.leaf));
     let steps = first_steps(&start, signed.randomizer, message);
     hash_ends(&start, &steps, signed.strings)
 }

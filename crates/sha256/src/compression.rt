@@ -3,7 +3,7 @@ ghost use Rattle.std.specs.Prelude.{◌≡◌, ◌/◌};
 ghost use Rattle.sha256.specs.Sha256.{round, added, first_words, schedule, compressed, after_all, digest};
 
 use super::functions::{big_sigma0, big_sigma1, choose, majority, small_sigma0, small_sigma1};
-use buffers::Piece;
+use buffers::array;
 
 // Eight words: a hash value, or the working variables of a round.
 #[derive(Clone, Copy)]
@@ -104,14 +104,13 @@ impl State {
     }
 
     // The digest: the bytes of the words, the highest of each first.
+    #[tactic(auto, unfolding(crate::specs::Sha256::digest))]
     pub fn to_bytes(self) -> [u8; 32]
         ensures { result ≡ digest self }
     {
         let front = (self.a, (self.b, (self.c, self.d)));
         let back = (self.e, (self.f, (self.g, self.h)));
-        let mut bytes = [0; 32];
-        (front, back).put(&mut bytes, 0);
-        bytes
+        array((front, back))
     }
 }
 

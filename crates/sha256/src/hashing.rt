@@ -5,7 +5,7 @@ ghost use Rattle.sha256.specs.Sha256.{padding, H0, compressed, after_all, digest
 ghost use Rattle.sha256.specs.Laws.{PaddingIsTheShortest};
 
 use super::compression::{INITIAL, State};
-use buffers::{Piece, Zeros};
+use buffers::{Piece, Zeros, array};
 
 // What stands behind a message of so many bytes.
 #[derive(Clone, Copy)]
@@ -48,14 +48,14 @@ pub fn hash_joined(front: &[u8], message: &[u8]) -> [u8; 32]
     requires { length front.now < 64 }
     ensures { result ≡ sha256 (front.now ++ message.now) }
 {
-    let mut block = [0; 64];
     let free = 64 - front.len();
     if message.len() < free {
+        let mut block = [0; 64];
         let end = (front, message).put(&mut block, 0);
         return hash(&block[..end]);
     }
     let (first, rest) = message.split_at(free);
-    (front, first).put(&mut block, 0);
+    let block = array((front, first));
     finish(INITIAL.compress(&block), 64, rest)
 }
 

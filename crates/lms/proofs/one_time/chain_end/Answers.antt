@@ -1,12 +1,11 @@
 use Rattle.std.proofs.Common.{◌≡◌, ◌+◌, ◌-◌, arith, refl, length-append}
-use Rattle.buffers.proofs.Laying.{filled}
 use Rattle.sha256.proofs.Blocks.{length-padding}
 use Rattle.lms.specs.Lms.{chain}
 use Rattle.lms.proofs.Chains.{step_more}
 use Rattle.lms.proofs.one_time.chain_end.Goals as goal
 
-pub put-requires : goal.put-requires
-put-requires g c = simp length-append (omega (arith, c.requires, length-padding (23 + g.row.N)))
+pub array-requires : goal.array-requires
+array-requires g c = simp length-append (omega (arith, c.requires, length-padding (23 + g.row.N)))
 
 pub loop-j-init : goal.loop-j-init
 unfolding chain
@@ -15,7 +14,7 @@ loop-j-init g c = let z : c.args.step - c.args.step ≡ 0 = omega arith in (c.to
 pub loop-j-preserved : goal.loop-j-preserved
 loop-j-preserved g c =
     let n = g.row.N in
-    let block = filled (rw c.to_be_bytes.ensures at c.put.ensures.after) (omega (arith, c.requires, simp length-append at c.put.ensures.next, length-padding (23 + n))) in (
+    let block = rw c.to_be_bytes.ensures at c.array.ensures in (
       omega arith,
-      step_more n c.args.i c.args.step c.loop-j.j c.args.start.now c.args.string.now c.loop-j.reached c.put.new.out c.hash_block-hash.result _ c.requires c.told-start c.loop-j.invariant.0 (omega arith) (omega arith) c.loop-j.invariant.1 block c.hash_block-hash.ensures c.copy_from_slice.ensures.after,
+      step_more n c.args.i c.args.step c.loop-j.j c.args.start.now c.args.string.now c.loop-j.reached c.array.result c.hash_block-hash.result _ c.requires c.told-start c.loop-j.invariant.0 (omega arith) (omega arith) c.loop-j.invariant.1 block c.hash_block-hash.ensures c.copy_from_slice.ensures.after,
     )

@@ -1,5 +1,4 @@
-use Rattle.std.proofs.Common.{◌≡◌, ℕ, List, ◌++◌, ap, ◌∙◌, append_assoc, arith, length-append}
-use Rattle.buffers.proofs.Laying.{filled}
+use Rattle.std.proofs.Common.{◌≡◌, ℕ, List, ◌++◌, ap, ◌∙◌, append_assoc}
 use Rattle.sha256.specs.Sha256.{sha256}
 use Rattle.lms.specs.Lms.{u16str, D-MESG, Cksm, Q, summed}
 use Rattle.lms.proofs.Texts.{hashed_32}
@@ -14,8 +13,6 @@ digested start randomizer message text d et ed =
 
 pub returns : goal.returns
 returns c =
-    let text = filled c.put.ensures.after (omega (arith, simp length-append at c.put.ensures.next)) in
-    let digest = digested c.args.start.now c.args.randomizer.now c.args.message.now c.put.new.out c.hash_joined-digest.result text c.hash_joined-digest.ensures in
+    let digest = digested c.args.start.now c.args.randomizer.now c.args.message.now c.array-text.result c.hash_joined-digest.result c.array-text.ensures c.hash_joined-digest.ensures in
     let sum : c.to_be_bytes.result ≡ u16str (Cksm c.hash_joined-digest.result) = c.to_be_bytes.ensures ∙ ap u16str c.checksum.ensures in
-    let steps = filled c.put-2.ensures.after (omega (arith, simp length-append at c.put-2.ensures.next)) in
-    steps ∙ ap (λ s. c.hash_joined-digest.result ++ s) sum ∙ ap summed digest
+    c.array.ensures ∙ ap (λ s. c.hash_joined-digest.result ++ s) sum ∙ ap summed digest

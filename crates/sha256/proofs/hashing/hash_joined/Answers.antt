@@ -1,5 +1,5 @@
 use Rattle.std.proofs.Common.{◌≡◌, ℕ, ◌+◌, List, ◌++◌, length, sym, refl, ap, ◌∙◌, append_assoc, arith, length-append}
-use Rattle.buffers.proofs.Laying.{fronted, filled}
+use Rattle.buffers.proofs.Laying.{fronted}
 use Rattle.sha256.specs.declared.compression.State.{State}
 use Rattle.sha256.specs.Sha256.{padding, H0, compressed, after_all, digest, sha256}
 use Rattle.sha256.proofs.Blocks.{first_block}
@@ -20,10 +20,9 @@ joined front first rest message block digested s em eb h es ed =
 
 pub returns : goal.returns
 returns c =
-    let block = filled c.put.ensures.after (omega (arith, c.put.ensures.next, length-append c.args.front.now c.split_at.result.0.now, c.split_at.ensures.front_len)) in
-    joined c.args.front.now c.split_at.result.0.now c.split_at.result.1.now c.args.message.now c.put.new.out c.finish.result c.compress.result
+    joined c.args.front.now c.split_at.result.0.now c.split_at.result.1.now c.args.message.now c.array-block.result c.finish.result c.compress.result
     c.split_at.ensures.by_index.0
-    block
+    c.array-block.ensures
     (omega arith)
     c.compress.ensures
     c.finish.ensures
