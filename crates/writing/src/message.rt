@@ -42,7 +42,7 @@ fn write_parts(
     ensures value { answered (λ n. n) result ≡ (sending_of limit.bytes statement tag.now attachment.now out.old).0 }
     ensures after { out.new ≡ (sending_of limit.bytes statement tag.now attachment.now out.old).1 }
 {
-    let tag = Tag::new(tag, limit)?;
+    let tag = Tag::within(limit, tag)?;
     if !has_room(out, statement.length() + tag.length(), attachment.len()) {
         return Err(Refusal::Short);
     }
@@ -94,7 +94,7 @@ pub fn seal(draft: &[u8], tag: &[u8], limit: TagLimit, out: &mut [u8]) -> Result
     ensures value { answered (λ n. n) result ≡ (sealing limit.bytes draft.now tag.now out.old).0 }
     ensures after { out.new ≡ (sealing limit.bytes draft.now tag.now out.old).1 }
 {
-    let tag = Tag::new(tag, limit)?;
+    let tag = Tag::within(limit, tag)?;
     if !has_room(out, draft.len(), limit.bytes() + 4) {
         return Err(Refusal::Short);
     }

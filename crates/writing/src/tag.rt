@@ -1,5 +1,5 @@
 // Tags to be written.
-ghost use Rattle.std.specs.Prelude.{◌≡◌, ◌≤◌, length};
+ghost use Rattle.std.specs.Prelude.{◌≡◌, ◌^◌, ◌<◌, length};
 ghost use Rattle.values.specs.Refusals.{answered};
 ghost use Rattle.wire.specs.Contents.{tag_bytes};
 ghost use Rattle.writing.specs.Written.{tagging};
@@ -8,22 +8,29 @@ use buffers::{Piece, Zeros};
 use values::{Refusal, TagLimit};
 use wire::pad;
 
-// A tag that is not longer than a limit.
+// A tag whose length fits a word.
 #[derive(Clone, Copy)]
 pub struct Tag<'a> {
     bytes: &'a [u8],
-    ghost short: { length bytes.now ≤ 2048 },
+    ghost short: { length bytes.now < 2 ^ 32 },
 }
 
 impl<'a> Tag<'a> {
-    // A longer one is refused with 3 at place 0.
-    pub fn new(bytes: &'a [u8], limit: TagLimit) -> Result<Tag<'a>, Refusal>
+    pub fn new(bytes: &'a [u8]) -> Tag<'a>
+        requires { length bytes.now < 2 ^ 32 }
+        ensures { result.bytes.now ≡ bytes.now }
+    {
+        Tag { bytes }
+    }
+
+    // One that is longer than the limit is refused with 3 at place 0.
+    pub fn within(limit: TagLimit, bytes: &'a [u8]) -> Result<Tag<'a>, Refusal>
         ensures { answered (λ tag. tag.bytes.now) result ≡ tagging limit.bytes bytes.now }
     {
         if bytes.len() > limit.bytes() {
             return Err(Refusal::Layout { place: 0 });
         }
-        Ok(Tag { bytes })
+        Ok(Tag::new(bytes))
     }
 
     // How many bytes it takes.
