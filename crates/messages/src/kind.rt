@@ -11,6 +11,7 @@ use super::message::Message;
 use values::TagLimit;
 use wire::{
     COMMIT, Claim, Counted, Field, Malformed, NEW_VIEW, PREPARE, PROPOSE, Packet, Part, ViewChange,
+    word_at,
 };
 
 // A message of one kind, taken apart.
@@ -36,18 +37,21 @@ pub trait Kind {
 
     ghost attaches: { ℕ → List ℕ → Self.Record → ℕ → Result ℕ Malformed };
 
-    ghost tells: { Pieces Self.Record → Pieces Statement };
-
     // The place behind what a statement attaches.
     fn attachment_end(said: Self::Record, packet: Packet<'_>, at: usize) -> Result<usize, Malformed>
         ensures value { result ≡ attaches packet.entry.limit.bytes packet.entry.bytes.now said at }
         ensures within { IfOk result (λ e. (at ≤ length packet.entry.bytes.now → Inside at e packet.entry.bytes.now)) };
 
-    // The message that the parts are.
+    ghost is_shortest: { Some SHORTEST ≡ shortest_of NUMBER };
+}
+
+// A kind whose messages may be whole packets.
+pub trait Whole: Kind {
+    ghost tells: { Pieces Self.Record → Pieces Statement };
+
+    // The message that its parts are.
     fn message<'a>(parts: Envelope<'a, Self::Record>) -> Message<'a>
         ensures { told result ≡ tells (pieces_of parts.entry) };
-
-    ghost is_shortest: { Some SHORTEST ≡ shortest_of NUMBER };
 }
 
 // The message of one kind at a place, and the place behind it.
@@ -58,10 +62,10 @@ pub fn envelope_at<K: Kind>(
     ensures value { envelope_read result ≡ parts_at K.Kind.NUMBER (K.Record.reads packet.entry.bytes.now) (K.Kind.attaches packet.entry.limit.bytes packet.entry.bytes.now) packet.entry.limit.bytes packet.entry.bytes.now at }
     ensures within { IfOk result (λ p. Inside at p.1 packet.entry.bytes.now) }
 {
-    if packet.word_at(at)? != K::NUMBER {
+    if word_at(packet.bytes, at)? != K::NUMBER {
         return Err(Malformed { place: at });
     }
-    let (statement, next) = K::Record::read(packet, at + 4)?;
+    let (statement, next) = K::Record::read(packet.bytes, at + 4)?;
     let (tag, start) = packet.tag_at(next)?;
     let end = K::attachment_end(statement, packet, start)?;
     let attachment = Part {
@@ -99,11 +103,15 @@ impl Kind for Prepare {
 
     ghost attaches = { λ limit b c at. Ok at };
 
-    ghost tells = { bare };
-
     fn attachment_end(_said: Claim, _packet: Packet<'_>, at: usize) -> Result<usize, Malformed> {
         Ok(at)
     }
+
+    ghost is_shortest = { refl };
+}
+
+impl Whole for Prepare {
+    ghost tells = { bare };
 
     fn message<'a>(parts: Envelope<'a, Claim>) -> Message<'a>
         ensures { told result ≡ bare (pieces_of parts.entry) }
@@ -113,8 +121,6 @@ impl Kind for Prepare {
             tag: parts.tag,
         }
     }
-
-    ghost is_shortest = { refl };
 }
 
 impl Kind for Commit {
@@ -130,11 +136,15 @@ impl Kind for Commit {
 
     ghost attaches = { λ limit b c at. behind (votes_at limit b at) };
 
-    ghost tells = { under statement.Commit };
-
     fn attachment_end(_said: Claim, packet: Packet<'_>, at: usize) -> Result<usize, Malformed> {
         packet.certificate_end(at)
     }
+
+    ghost is_shortest = { refl };
+}
+
+impl Whole for Commit {
+    ghost tells = { under statement.Commit };
 
     fn message<'a>(parts: Envelope<'a, Claim>) -> Message<'a>
         ensures { told result ≡ under statement.Commit (pieces_of parts.entry) }
@@ -145,8 +155,6 @@ impl Kind for Commit {
             certificate: parts.attachment,
         }
     }
-
-    ghost is_shortest = { refl };
 }
 
 impl Kind for NewView {
@@ -162,14 +170,18 @@ impl Kind for NewView {
 
     ghost attaches = { λ limit b c at. behind (certified_at limit b c.committed at) };
 
-    ghost tells = { under statement.NewView };
-
     fn attachment_end(said: ViewChange, packet: Packet<'_>, at: usize) -> Result<usize, Malformed> {
         match said.committed {
             Some(_) => packet.certificate_end(at),
             None => Ok(at),
         }
     }
+
+    ghost is_shortest = { refl };
+}
+
+impl Whole for NewView {
+    ghost tells = { under statement.NewView };
 
     fn message<'a>(parts: Envelope<'a, ViewChange>) -> Message<'a>
         ensures { told result ≡ under statement.NewView (pieces_of parts.entry) }
@@ -180,8 +192,6 @@ impl Kind for NewView {
             certificate: parts.attachment,
         }
     }
-
-    ghost is_shortest = { refl };
 }
 
 impl Counted for NewView {
@@ -193,7 +203,8 @@ impl Counted for NewView {
     }
 }
 
-// The place behind a progress certificate: a count word, and whole new-view messages.
+// The place behind a progress certificate, a count word and whole new-views: a name, with the
+// certificate's own definition.
 pub fn progress_end(packet: Packet<'_>, at: usize) -> Result<usize, Malformed>
     ensures value { result ≡ behind (progress_at packet.entry.limit.bytes packet.entry.bytes.now at) }
     ensures within { IfOk result (λ e. Inside at e packet.entry.bytes.now) }
@@ -214,11 +225,15 @@ impl Kind for Propose {
 
     ghost attaches = { λ limit b c at. behind (progress_at limit b at) };
 
-    ghost tells = { under statement.Propose };
-
     fn attachment_end(_said: Claim, packet: Packet<'_>, at: usize) -> Result<usize, Malformed> {
         progress_end(packet, at)
     }
+
+    ghost is_shortest = { refl };
+}
+
+impl Whole for Propose {
+    ghost tells = { under statement.Propose };
 
     fn message<'a>(parts: Envelope<'a, Claim>) -> Message<'a>
         ensures { told result ≡ under statement.Propose (pieces_of parts.entry) }
@@ -229,11 +244,9 @@ impl Kind for Propose {
             progress: parts.attachment,
         }
     }
-
-    ghost is_shortest = { refl };
 }
 
-// The length of the shortest message of a kind.
+// The length of the shortest message of a kind, by the number that a packet has for it.
 pub fn shortest(kind: u32) -> Option<usize>
     ensures { result ≡ shortest_of kind }
 {

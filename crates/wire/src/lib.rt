@@ -1,5 +1,5 @@
-// What stands in a packet: words, tags, statements and commit certificates, read from lent bytes
-// and written into them.
+// What stands in a packet: words, tags, statements and commit certificates, read from lent bytes.
+// Statements are written into them as well.
 #![tactic(auto)]
 
 mod certificate;
@@ -7,7 +7,7 @@ mod statement;
 mod tag;
 mod words;
 
-pub use certificate::{Counted, Entries, Entry};
+pub use certificate::{Counted, Entry, count_at};
 pub use statement::{COMMIT, Claim, Head, NEW_VIEW, PREPARE, PROPOSE, Statement, ViewChange};
 pub use tag::{Part, pad};
-pub use words::{Field, Malformed, Packet};
+pub use words::{Field, Malformed, Packet, word_at};

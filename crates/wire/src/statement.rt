@@ -3,7 +3,7 @@ ghost use Rattle.std.specs.Prelude.{◌≡◌, ◌+◌, ◌≤◌, length, OnOk}
 ghost use Rattle.wire.specs.Contents.{head_bytes, claim_bytes, change_bytes, report_bytes, statement_bytes};
 ghost use Rattle.wire.specs.Layout.{three_at, value_at, head_at, report_at, claim_at, change_at};
 
-use super::words::{Field, Malformed, Packet};
+use super::words::{Field, Malformed, word_at};
 use buffers::Piece;
 use values::{Report, Value};
 
@@ -38,7 +38,7 @@ pub enum Statement {
     NewView(ViewChange),
 }
 
-// The kinds' numbers.
+// The kinds' numbers, which read and write the one word that has them; `Statement` is their enum.
 pub const PROPOSE: u32 = 1;
 
 pub const PREPARE: u32 = 2;
@@ -50,19 +50,20 @@ pub const NEW_VIEW: u32 = 4;
 // ---- reading ----
 
 // Three words, one behind the other.
-fn three_at(packet: Packet<'_>, at: usize) -> Result<(u32, u32, u32), Malformed>
-    ensures value { result ≡ three_at (λ x y z. (x, y, z)) packet.entry.bytes.now at }
-    ensures within { OnOk result (at + 12 ≤ length packet.entry.bytes.now) }
+fn three_at(packet: &[u8], at: usize) -> Result<(u32, u32, u32), Malformed>
+    ensures value { result ≡ three_at (λ x y z. (x, y, z)) packet.now at }
+    ensures within { OnOk result (at + 12 ≤ length packet.now) }
 {
-    let first = packet.word_at(at)?;
-    let second = packet.word_at(at + 4)?;
-    let third = packet.word_at(at + 8)?;
+    let first = word_at(packet, at)?;
+    let second = word_at(packet, at + 4)?;
+    let third = word_at(packet, at + 8)?;
     Ok((first, second, third))
 }
 
-fn value_at(packet: Packet<'_>, at: usize) -> Result<Value, Malformed>
-    ensures value { result ≡ value_at packet.entry.bytes.now at }
-    ensures within { OnOk result (at + 12 ≤ length packet.entry.bytes.now) }
+// A value and a head differ in the names of their words alone, which no type parameter has.
+fn value_at(packet: &[u8], at: usize) -> Result<Value, Malformed>
+    ensures value { result ≡ value_at packet.now at }
+    ensures within { OnOk result (at + 12 ≤ length packet.now) }
 {
     let (first, second, third) = three_at(packet, at)?;
     Ok(Value {
@@ -72,9 +73,9 @@ fn value_at(packet: Packet<'_>, at: usize) -> Result<Value, Malformed>
     })
 }
 
-fn head_at(packet: Packet<'_>, at: usize) -> Result<Head, Malformed>
-    ensures value { result ≡ head_at packet.entry.bytes.now at }
-    ensures within { OnOk result (at + 12 ≤ length packet.entry.bytes.now) }
+fn head_at(packet: &[u8], at: usize) -> Result<Head, Malformed>
+    ensures value { result ≡ head_at packet.now at }
+    ensures within { OnOk result (at + 12 ≤ length packet.now) }
 {
     let (round, view, site) = three_at(packet, at)?;
     Ok(Head { round, view, site })
@@ -84,11 +85,11 @@ fn head_at(packet: Packet<'_>, at: usize) -> Result<Head, Malformed>
 impl Field for Option<Report> {
     ghost reads = { report_at };
 
-    fn read(packet: Packet<'_>, at: usize) -> Result<(Option<Report>, usize), Malformed> {
-        match packet.word_at(at)? {
+    fn read(packet: &[u8], at: usize) -> Result<(Option<Report>, usize), Malformed> {
+        match word_at(packet, at)? {
             0 => Ok((None, at + 4)),
             1 => {
-                let view = packet.word_at(at + 4)?;
+                let view = word_at(packet, at + 4)?;
                 let value = value_at(packet, at + 8)?;
                 Ok((Some(Report { view, value }), at + 20))
             }
@@ -101,7 +102,7 @@ impl Field for Option<Report> {
 impl Field for Claim {
     ghost reads = { claim_at };
 
-    fn read(packet: Packet<'_>, at: usize) -> Result<(Claim, usize), Malformed> {
+    fn read(packet: &[u8], at: usize) -> Result<(Claim, usize), Malformed> {
         let head = head_at(packet, at)?;
         let value = value_at(packet, at + 12)?;
         Ok((Claim { head, value }, at + 24))
@@ -112,7 +113,7 @@ impl Field for Claim {
 impl Field for ViewChange {
     ghost reads = { change_at };
 
-    fn read(packet: Packet<'_>, at: usize) -> Result<(ViewChange, usize), Malformed> {
+    fn read(packet: &[u8], at: usize) -> Result<(ViewChange, usize), Malformed> {
         let head = head_at(packet, at)?;
         let (prepared, next) = Field::read(packet, at + 12)?;
         let (committed, end) = Field::read(packet, next)?;

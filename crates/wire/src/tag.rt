@@ -4,7 +4,7 @@ ghost use Rattle.wire.specs.Contents.{padded};
 ghost use Rattle.wire.specs.Layout.{zeros, tag_at};
 ghost use Rattle.wire.specs.Places.{Inside, tag_read};
 
-use super::words::{Malformed, Packet};
+use super::words::{Malformed, Packet, word_at};
 
 // A part of a packet, and its place there: of a tag the place of its length word,
 // of an attachment that of its first byte.
@@ -35,7 +35,8 @@ impl<'a> Packet<'a> {
         ensures within { IfOk result (λ p. Inside at p.1 self.entry.bytes.now) }
         ensures place { IfOk result (λ p. p.0.place ≡ at) }
     {
-        let len = self.word_at(at)? as usize;
+        // By places: with `get` and a match on the rest, two goals stayed open.
+        let len = word_at(self.bytes, at)? as usize;
         let start = at + 4;
         let filled = pad(len);
         if len > self.limit.bytes()

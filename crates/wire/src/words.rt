@@ -22,25 +22,17 @@ impl From<Malformed> for Refusal {
     }
 }
 
-// The bytes of a packet or a draft, and how long a tag in them may be.
-#[derive(Clone, Copy)]
-pub struct Packet<'a> {
-    pub bytes: &'a [u8],
-    pub limit: TagLimit,
-}
-
-impl Packet<'_> {
-    // The word at a place.
-    #[tactic(auto, unfolding(crate::specs::Words::word_at))]
-    pub fn word_at(self, at: usize) -> Result<u32, Malformed>
-        ensures value { result ≡ word_at self.entry.bytes.now at }
-        ensures within { OnOk result (at + 4 ≤ length self.entry.bytes.now) }
-    {
-        if self.bytes.len() < 4 || at > self.bytes.len() - 4 {
-            return Err(Malformed { place: at });
-        }
-        Ok(word(self.bytes, at))
+// The word at a place.
+#[tactic(auto, unfolding(crate::specs::Words::word_at))]
+pub fn word_at(packet: &[u8], at: usize) -> Result<u32, Malformed>
+    ensures value { result ≡ word_at packet.now at }
+    ensures within { OnOk result (at + 4 ≤ length packet.now) }
+{
+    // As plain as a `get`, which would have to be turned into an array before it is a word.
+    if packet.len() < 4 || at > packet.len() - 4 {
+        return Err(Malformed { place: at });
     }
+    Ok(word(packet, at))
 }
 
 // What stands at a place of a packet, whatever the tag limit is.
@@ -48,7 +40,14 @@ pub trait Field: Sized {
     ghost reads: { List ℕ → ℕ → Result (Self × ℕ) Malformed };
 
     // What stands at a place, and the place behind it.
-    fn read(packet: Packet<'_>, at: usize) -> Result<(Self, usize), Malformed>
-        ensures value { result ≡ reads packet.entry.bytes.now at }
-        ensures within { IfOk result (λ p. Inside at p.1 packet.entry.bytes.now) };
+    fn read(packet: &[u8], at: usize) -> Result<(Self, usize), Malformed>
+        ensures value { result ≡ reads packet.now at }
+        ensures within { IfOk result (λ p. Inside at p.1 packet.now) };
+}
+
+// The bytes of a packet or a draft, and how long a tag in them may be.
+#[derive(Clone, Copy)]
+pub struct Packet<'a> {
+    pub bytes: &'a [u8],
+    pub limit: TagLimit,
 }
