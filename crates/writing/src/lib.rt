@@ -1,4 +1,4 @@
-// Drafts and messages, written into a lent buffer; and sealing.
+// Tags, drafts and messages, written into a lent buffer; and sealing.
 #![tactic(auto)]
 
 mod message;

@@ -13,7 +13,9 @@ use wire::{Packet, Statement};
 fn has_room(out: &[u8], first: usize, second: usize) -> bool
     ensures { result ≡ nat_le (first + second) (length out.now) }
 {
-    first <= out.len() && second <= out.len() - first
+    first
+        .checked_add(second)
+        .is_some_and(|both| both <= out.len())
 }
 
 // A statement and its attachment, at the start of `out`; answers their length.
@@ -31,17 +33,24 @@ pub fn write_draft(
     Ok((statement, attachment).put(out, 0))
 }
 
-// Statement, tag and attachment, at the start of `out`; answers their length.
-fn write_parts(
+// What a message is written from.
+#[derive(Clone, Copy)]
+struct Parts<'a> {
     statement: Statement,
-    tag: &[u8],
-    attachment: &[u8],
-    limit: TagLimit,
-    out: &mut [u8],
-) -> Result<usize, Refusal>
-    ensures value { answered (λ n. n) result ≡ (sending_of limit.bytes statement tag.now attachment.now out.old).0 }
-    ensures after { out.new ≡ (sending_of limit.bytes statement tag.now attachment.now out.old).1 }
+    tag: &'a [u8],
+    attachment: &'a [u8],
+}
+
+// The parts, at the start of `out`; answers their length.
+fn write_parts(parts: Parts<'_>, limit: TagLimit, out: &mut [u8]) -> Result<usize, Refusal>
+    ensures value { answered (λ n. n) result ≡ (sending_of limit.bytes parts.entry.statement parts.entry.tag.now parts.entry.attachment.now out.old).0 }
+    ensures after { out.new ≡ (sending_of limit.bytes parts.entry.statement parts.entry.tag.now parts.entry.attachment.now out.old).1 }
 {
+    let Parts {
+        statement,
+        tag,
+        attachment,
+    } = parts;
     let tag = Tag::within(limit, tag)?;
     if !has_room(out, statement.length() + tag.length(), attachment.len()) {
         return Err(Refusal::Short);
@@ -49,29 +58,35 @@ fn write_parts(
     Ok((statement, (tag, attachment)).put(out, 0))
 }
 
-// The statement of a message, its tag, and what it attaches.
-fn parts(message: Message<'_>) -> (Statement, &[u8], &[u8])
-    ensures statement { result.0 ≡ (told message.entry).statement }
-    ensures tag { result.1.now ≡ (told message.entry).tag.bytes }
-    ensures attachment { result.2.now ≡ (told message.entry).attachment.bytes }
-{
-    match message {
-        Message::Propose {
-            claim,
-            tag,
-            progress,
-        } => (Statement::Propose(claim), tag.bytes, progress.bytes),
-        Message::Prepare { claim, tag } => (Statement::Prepare(claim), tag.bytes, &[]),
-        Message::Commit {
-            claim,
-            tag,
-            certificate,
-        } => (Statement::Commit(claim), tag.bytes, certificate.bytes),
-        Message::NewView {
-            change,
-            tag,
-            certificate,
-        } => (Statement::NewView(change), tag.bytes, certificate.bytes),
+impl<'a> Parts<'a> {
+    fn of(message: Message<'a>) -> Parts<'a>
+        ensures statement { result.statement ≡ (told message.entry).statement }
+        ensures tag { result.tag.now ≡ (told message.entry).tag.bytes }
+        ensures attachment { result.attachment.now ≡ (told message.entry).attachment.bytes }
+    {
+        let (statement, tag, attachment): (_, _, &[u8]) = match message {
+            Message::Propose {
+                claim,
+                tag,
+                progress,
+            } => (Statement::Propose(claim), tag, progress.bytes),
+            Message::Prepare { claim, tag } => (Statement::Prepare(claim), tag, &[]),
+            Message::Commit {
+                claim,
+                tag,
+                certificate,
+            } => (Statement::Commit(claim), tag, certificate.bytes),
+            Message::NewView {
+                change,
+                tag,
+                certificate,
+            } => (Statement::NewView(change), tag, certificate.bytes),
+        };
+        Parts {
+            statement,
+            tag: tag.bytes,
+            attachment,
+        }
     }
 }
 
@@ -84,8 +99,7 @@ pub fn write_message(
     ensures value { answered (λ n. n) result ≡ (sending limit.bytes (told message.entry) out.old).0 }
     ensures after { out.new ≡ (sending limit.bytes (told message.entry) out.old).1 }
 {
-    let (statement, tag, attachment) = parts(message);
-    write_parts(statement, tag, attachment, limit, out)
+    write_parts(Parts::of(message), limit, out)
 }
 
 // Puts a tag behind the statement of a draft, and the message at the start of `out`;
