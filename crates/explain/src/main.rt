@@ -34,7 +34,7 @@ struct Explainer<'a> {
     limit: TagLimit,
 }
 
-impl<'a> Explainer<'a> {
+impl Explainer<'_> {
     // What a packet holds, behind a margin.
     fn explain_packet(self, bytes: &[u8], margin: usize) -> anyhow::Result<()> {
         let packet = Packet {

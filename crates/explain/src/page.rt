@@ -4,7 +4,7 @@ use messages::{Envelope, Message, NewView, envelope_at, shortest};
 use packets::{read, write};
 use std::{fmt, io};
 use values::Refusal;
-use wire::{Claim, Packet, Part, ViewChange};
+use wire::{Claim, Packet, Part, ViewChange, word_at};
 
 // Where a packet is shown: lines behind a margin of so many blanks. What comes first goes on
 // behind what was printed before.
@@ -25,13 +25,15 @@ impl<'a> Page<'a> {
             }
             Err(refusal) => {
                 self.refused(refusal)?;
-                Ok(self.too_short()?)
+                self.too_short()?;
+                Ok(())
             }
         }
     }
 
     fn line<D: fmt::Display + Drop>(self, text: D) -> io::Result<()> {
-        println!(self.rt; "{:1$}{text}", "", self.margin)
+        let margin = self.margin;
+        println!(self.rt; "{:margin$}{text}", "")
     }
 
     // The same page, for lines that stand under another.
@@ -50,7 +52,7 @@ impl<'a> Page<'a> {
     // How long the packet should have been at least, if its kind is known.
     fn too_short(self) -> io::Result<()> {
         let len = self.packet.bytes.len();
-        let Ok(kind) = self.packet.word_at(0) else {
+        let Ok(kind) = word_at(self.packet.bytes, 0) else {
             return Ok(());
         };
         match shortest(kind) {
@@ -118,7 +120,7 @@ impl<'a> Page<'a> {
     // A commit certificate: a line for each entry, under it. It was read before, so that no
     // part of it is cut.
     fn certificate(self, place: usize) -> io::Result<()> {
-        let Ok(count) = self.packet.word_at(place) else {
+        let Ok(count) = word_at(self.packet.bytes, place) else {
             return Ok(());
         };
         self.line(format_args!("commit certificate at {place}, {count} entries"))?;
@@ -137,7 +139,7 @@ impl<'a> Page<'a> {
     // A progress certificate, as whole: each new-view, under it. A loop shared with commit
     // certificates would take two closures, and be no shorter.
     fn progress(self, place: usize) -> io::Result<()> {
-        let Ok(count) = self.packet.word_at(place) else {
+        let Ok(count) = word_at(self.packet.bytes, place) else {
             return Ok(());
         };
         self.line(format_args!("progress certificate at {place}, {count} entries"))?;

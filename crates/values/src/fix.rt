@@ -1,7 +1,7 @@
 // What sites agree on: three words of the line, and the fix that they write.
 ghost use Rattle.std.specs.Prelude.{◌≡◌};
 ghost use Rattle.values.specs.Refusals.{answered};
-ghost use Rattle.values.specs.Fixes.{angle_of, fix_of, words_of, legal_track, between_z, legal, legal_at};
+ghost use Rattle.values.specs.Fixes.{angle_of, fix_of, words_of, legal, legal_at};
 ghost use Rattle.values.specs.Lines.{value_bytes, viewed_bytes};
 
 use super::refusal::Refusal;
@@ -81,26 +81,14 @@ impl From<Fix> for Value {
     }
 }
 
-fn legal_track(track: u32) -> bool
-    ensures { result ≡ legal_track track }
-{
-    track >= 1 && track <= 999
-}
-
-// As plain as a range's `contains`, which would be stated of `partial_cmp`.
-fn between(low: i32, high: i32, z: i32) -> bool
-    ensures { result ≡ between_z low high z }
-{
-    low <= z && z <= high
-}
-
 impl Fix {
+    #[tactic(auto, unfolding(crate::specs::Fixes::legal))]
     pub fn is_legal(&self) -> bool
         ensures { result ≡ legal self.now }
     {
-        let east = between(-MERIDIAN, MERIDIAN, self.longitude);
-        let north = between(-POLE, POLE, self.latitude);
-        legal_track(self.track) & east & north
+        (1..=999).contains(&self.track)
+            && (-MERIDIAN..=MERIDIAN).contains(&self.longitude)
+            && (-POLE..=POLE).contains(&self.latitude)
     }
 }
 

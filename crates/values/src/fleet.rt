@@ -19,7 +19,7 @@ impl Fleet {
     pub fn new(f: u32, t: u32) -> Result<Fleet, Refusal>
         ensures { answered (λ x. (x.f, x.t)) result ≡ fleet_of f t }
     {
-        if f < 1 || f > 5 || t > f || 3 * f + 2 * t + 1 > 16 {
+        if !(1..=5).contains(&f) || t > f || 3 * f + 2 * t + 1 > 16 {
             return Err(Refusal::Limits);
         }
         Ok(Fleet { f, t })
@@ -106,7 +106,7 @@ impl TagLimit {
     pub fn new(bytes: usize) -> Result<TagLimit, Refusal>
         ensures { answered (λ l. l.bytes) result ≡ limit_of bytes }
     {
-        if bytes < 4 || bytes > 2048 || bytes % 4 != 0 {
+        if !(4..=2048).contains(&bytes) || bytes % 4 != 0 {
             return Err(Refusal::Limits);
         }
         Ok(TagLimit { bytes })
