@@ -12,7 +12,7 @@ use page::Page;
 use pieces::{Grouped, Meant, Unread};
 use std::env;
 use std::io::{BufRead, BufReader};
-use values::TagLimit;
+use values::{Refusal, TagLimit};
 use wire::Packet;
 
 // The longest tag, where no argument says otherwise.
@@ -21,8 +21,10 @@ const LONGEST: usize = 2048;
 // The tag limit: the first argument, if there is one.
 fn tag_limit(rt: &HostRuntime) -> anyhow::Result<TagLimit> {
     let word = env::args(rt)?.nth(1);
-    let bytes = word.map_or(LONGEST, |word| word.as_str().parse().unwrap_or(0));
-    TagLimit::new(bytes).map_err(|refusal| anyhow!(
+    let bytes = word.map_or(Ok(LONGEST), |word| {
+        word.as_str().parse().map_err(|_| Refusal::Limits)
+    });
+    bytes.and_then(TagLimit::new).map_err(|refusal| anyhow!(
         "{refusal}: the tag limit is a multiple of 4 from 4 to 2048"
     ))
 }
@@ -61,10 +63,14 @@ impl Explainer<'_> {
             Ok(len) => {
                 sealed.truncate(len);
                 println!(rt; "  sealed: {}", Grouped(sealed.as_slice()))?;
+                // What comes first on this line depends on the packet.
                 print!(rt; "  ")?;
                 self.explain_packet(sealed.as_slice(), 4)
             }
-            Err(refusal) => Ok(println!(rt; "  {}", Meant(refusal))?),
+            Err(refusal) => {
+                println!(rt; "  {}", Meant(refusal))?;
+                Ok(())
+            }
         }
     }
 
@@ -79,7 +85,10 @@ impl Explainer<'_> {
         match Task::read(rt.alloc(), text) {
             Ok(Task::Explain { packet }) => self.explain_packet(packet.as_slice(), 2),
             Ok(Task::Seal { draft, tag }) => self.explain_draft(draft.as_slice(), tag.as_slice()),
-            Err(bad) => Ok(println!(rt; "{}", Unread(bad))?),
+            Err(bad) => {
+                println!(rt; "{}", Unread(bad))?;
+                Ok(())
+            }
         }
     }
 }

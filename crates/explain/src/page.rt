@@ -124,6 +124,7 @@ impl<'a> Page<'a> {
             return Ok(());
         };
         self.line(format_args!("commit certificate at {place}, {count} entries"))?;
+        // No count by hand: `next` is where the next one stands.
         let mut next = place + 4;
         for _ in 0..count {
             let Ok((entry, end)) = self.packet.entry_at(next) else {
@@ -136,8 +137,8 @@ impl<'a> Page<'a> {
         Ok(())
     }
 
-    // A progress certificate, as whole: each new-view, under it. A loop shared with commit
-    // certificates would take two closures, and be no shorter.
+    // A progress certificate, as whole: each new-view, under it.
+    // A loop shared with commit certificates would take two closures, and be no plainer.
     fn progress(self, place: usize) -> io::Result<()> {
         let Ok(count) = word_at(self.packet.bytes, place) else {
             return Ok(());

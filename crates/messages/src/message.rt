@@ -79,8 +79,8 @@ fn draft_as<K: Kind>(draft: Packet<'_>) -> Result<usize, Malformed>
     Ok(end)
 }
 
-// The place behind the statement of a draft, if its layout is good to the end. A match of its
-// own, since no parameter can be a function that is itself generic over the kind.
+// The place behind the statement of a draft, if its layout is good to the end.
+// The match stands twice, since no parameter can be a function that is itself generic.
 #[tactic(auto, unfolding(wire::specs::Layout::draft_end))]
 pub fn draft_end(draft: Packet<'_>) -> Result<usize, Malformed>
     ensures value { result ≡ draft_end draft.entry.limit.bytes draft.entry.bytes.now }
