@@ -15,8 +15,8 @@ fn chain_end<const N: usize>(start: &[u8; 20], i: u16, step: u8, string: &[u8; N
     let mut reached = *string;
     for j in step..255 {
         let text = (start, (&i.to_be_bytes(), (&[j], &reached)));
-        let hash = hash_block(&array((text, Padding(23 + N))));
-        reached.copy_from_slice(&hash[..N]);
+        let digest = hash_block(&array((text, Padding(23 + N))));
+        reached.copy_from_slice(&digest[..N]);
     }
     reached
 }
