@@ -43,8 +43,7 @@ fn hash_ends(start: &[u8; 20], steps: &[u8; 34], strings: &[u8; 1088]) -> [u8; 3
 {
     let mut text = [0; 1110];
     let mut next = (start, &[0x80, 0x80]).put(&mut text, 0);
-    // Counted, since a chain's text has the chain's number. The step is taken by that number, since
-    // a zip that is counted wants a proof of three times the length.
+    // Counted, since a chain's text has its number. Over a counted zip an invariant has no index.
     for (i, string) in strings.as_chunks::<32>().0.iter().enumerate() {
         let end = chain_end(start, i as u16, steps[i], string);
         next = (&end).put(&mut text, next);
