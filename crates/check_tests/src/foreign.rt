@@ -21,14 +21,10 @@ impl Check for Echo {
 }
 
 // How many of the sites below 20 a check vouches for: code that knows no check by name.
-fn count_vouched<C: Check>(check: &C, statement: &[u8], tag: &[u8]) -> u32 {
-    let mut count = 0u32;
-    for site in 0..20 {
-        if check.vouches(site, statement, tag) {
-            count = count.saturating_add(1);
-        }
-    }
-    count
+fn count_vouched<C: Check>(check: &C, statement: &[u8], tag: &[u8]) -> usize {
+    (0..20)
+        .filter(|site| check.vouches(*site, statement, tag))
+        .count()
 }
 
 #[test]

@@ -7,7 +7,8 @@ pub trait Check {
     // The meaning: the triples that it vouches for.
     ghost vouched: { Self → Vouched };
 
-    // Says yes exactly for these. Asking changes nothing.
+    // Says yes exactly for these. Asking changes nothing. Site, statement and tag stand apart, as
+    // callers have them.
     fn vouches(&self, site: u32, statement: &[u8], tag: &[u8]) -> bool
         ensures { result ≡ vouched self.now site statement.now tag.now };
 

@@ -30,6 +30,7 @@ impl<C: Check> Check for PortPrefix<C> {
         if statement.len() > 60 {
             return false;
         }
+        // An array that is filled up to `end`, since nothing may be allocated.
         let mut prefixed = [0; 64];
         let end = (self.port, statement).put(&mut prefixed, 0);
         self.below.vouches(site, &prefixed[..end], tag)

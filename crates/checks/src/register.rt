@@ -5,6 +5,9 @@ ghost use Rattle.checks.specs.Registers.{row_of, registered, Short-registered, R
 use super::check::Check;
 use buffers::{Zeros, array, word};
 
+// How many bytes a row has.
+const ROW: usize = 72;
+
 // Rows of a site, a statement's length, and the statement filled with zeros to 64 bytes. A tag is
 // the number of a row, counted from 0.
 #[derive(Clone, Copy)]
@@ -22,7 +25,7 @@ impl<'a> Register<'a> {
 }
 
 // The row of a statement, if it is not above 64 bytes.
-pub fn register_row(site: u32, statement: &[u8]) -> Option<[u8; 72]>
+pub fn register_row(site: u32, statement: &[u8]) -> Option<[u8; ROW]>
     ensures { result ≡ row_of site statement.now }
 {
     let len = statement.len();
@@ -42,7 +45,7 @@ impl Check for Register<'_> {
         if tag.len() != 4 {
             return false;
         }
-        let (rows, _) = self.rows.as_chunks::<72>();
+        let (rows, _) = self.rows.as_chunks::<ROW>();
         rows.get(word(tag, 0) as usize) == Some(&row)
     }
 

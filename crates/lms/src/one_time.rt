@@ -15,8 +15,8 @@ fn chain_end<const N: usize>(start: &[u8; 20], i: u16, step: u8, string: &[u8; N
     let mut reached = *string;
     for j in step..255 {
         let text = (start, (&i.to_be_bytes(), (&[j], &reached)));
-        let hash = hash_block(&array((text, Padding(23 + N))));
-        reached.copy_from_slice(&hash[..N]);
+        let digest = hash_block(&array((text, Padding(23 + N))));
+        reached.copy_from_slice(&digest[..N]);
     }
     reached
 }
@@ -43,7 +43,7 @@ fn hash_ends(start: &[u8; 20], steps: &[u8; 34], strings: &[u8; 1088]) -> [u8; 3
 {
     let mut text = [0; 1110];
     let mut next = (start, &[0x80, 0x80]).put(&mut text, 0);
-    // Counted, since a chain's text has the chain's number.
+    // Counted, since a chain's text has its number. Over a counted zip an invariant has no index.
     for (i, string) in strings.as_chunks::<32>().0.iter().enumerate() {
         let end = chain_end(start, i as u16, steps[i], string);
         next = (&end).put(&mut text, next);

@@ -35,8 +35,8 @@ impl<'a> KeyParts<'a> {
             return None;
         }
         Some(KeyParts {
-            id: array(key, 8),
-            root: array(key, 24),
+            id: part(key, 8),
+            root: part(key, 24),
         })
     }
 }
@@ -56,15 +56,15 @@ impl<'a> SignatureParts<'a> {
         }
         Some(SignatureParts {
             leaf,
-            randomizer: array(signature, 8),
-            strings: array(signature, 40),
-            path: array(signature, 1132),
+            randomizer: part(signature, 8),
+            strings: part(signature, 40),
+            path: part(signature, 1132),
         })
     }
 }
 
 // So many bytes from a place on.
-fn array<const N: usize>(bytes: &[u8], at: usize) -> &[u8; N]
+fn part<const N: usize>(bytes: &[u8], at: usize) -> &[u8; N]
     requires { at + N ≤ length bytes.now }
     ensures { result.now ≡ part at N bytes.now }
 {

@@ -16,6 +16,7 @@ fn hash_node<P: Piece>(id: &[u8; 16], node: u32, mark: &[u8; 2], below: P) -> [u
     requires { length (P.bytes below) ≤ 64 }
     ensures { result ≡ hashed 32 (id.now ++ (u32str node ++ (mark.now ++ P.bytes below))) }
 {
+    // An array that is filled up to `end`, since nothing may be allocated.
     let mut text = [0; 86];
     let end = (id, (node, (mark, below))).put(&mut text, 0);
     hash(&text[..end])

@@ -103,7 +103,7 @@ impl State {
         state
     }
 
-    // The digest: the bytes of the words, the highest of each first.
+    // The digest: the bytes of the words, the highest of each first. Named as std's `to_be_bytes`.
     #[tactic(auto, unfolding(crate::specs::Sha256::digest))]
     pub fn to_bytes(self) -> [u8; 32]
         ensures { result ≡ digest self }
@@ -119,6 +119,7 @@ fn block_words(block: &[u8; 64]) -> [u32; 64]
     ensures { first_words result ≡ schedule 16 block.now }
 {
     let mut w = [0; 64];
+    // Counted, since a zip over `iter_mut` leaves nothing known of what was written.
     for (t, bytes) in block.as_chunks::<4>().0.iter().enumerate() {
         w[t] = u32::from_be_bytes(*bytes);
     }

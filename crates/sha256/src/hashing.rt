@@ -30,6 +30,7 @@ fn finish(state: State, before: usize, rest: &[u8]) -> [u8; 32]
     let len = before.wrapping_add(rest.len());
     let state = state.absorb(rest);
     let (_, last) = rest.as_chunks::<64>();
+    // An array that is filled up to `end`, since nothing may be allocated.
     let mut tail = [0; 128];
     let end = (last, Padding(len)).put(&mut tail, 0);
     state.absorb(&tail[..end]).to_bytes()
@@ -50,6 +51,7 @@ pub fn hash_joined(front: &[u8], message: &[u8]) -> [u8; 32]
 {
     let free = 64 - front.len();
     if message.len() < free {
+        // Filled up to `end`, since nothing may be allocated.
         let mut block = [0; 64];
         let end = (front, message).put(&mut block, 0);
         return hash(&block[..end]);

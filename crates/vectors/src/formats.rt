@@ -8,7 +8,7 @@ use std::str::FromStr;
 use values::{Fix, Refusal, TagLimit};
 use wire::{Claim, Head, Statement};
 
-// Room for any message that the lines have.
+// Room for any message that the lines have: one number, so that what is expected sets no room.
 const ROOM: usize = 65536;
 
 // Whether what is written into a buffer is what is expected; a refusal is not.

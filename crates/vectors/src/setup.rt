@@ -4,7 +4,7 @@ use super::tally::Tally;
 use anyhow::{Context, ensure};
 use checks::{Check, ShippedCheck};
 
-// Revoked sites and keys are two arrays, as the check takes them.
+// Marks and keys stand apart, since the check's `new` takes them so: each layer has its own.
 #[derive(Clone, Copy)]
 pub struct Setup {
     revoked: [bool; 16],

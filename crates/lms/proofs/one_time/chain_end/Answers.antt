@@ -16,5 +16,5 @@ loop-j-preserved g c =
     let n = g.row.N in
     let block = rw c.to_be_bytes.ensures at c.array.ensures in (
       omega arith,
-      step_more n c.args.i c.args.step c.loop-j.j c.args.start.now c.args.string.now c.loop-j.reached c.array.result c.hash_block-hash.result _ c.requires c.told-start c.loop-j.invariant.0 (omega arith) (omega arith) c.loop-j.invariant.1 block c.hash_block-hash.ensures c.copy_from_slice.ensures.after,
+      step_more n c.args.i c.args.step c.loop-j.j c.args.start.now c.args.string.now c.loop-j.reached c.array.result c.hash_block-digest.result _ c.requires c.told-start c.loop-j.invariant.0 (omega arith) (omega arith) c.loop-j.invariant.1 block c.hash_block-digest.ensures c.copy_from_slice.ensures.after,
     )
