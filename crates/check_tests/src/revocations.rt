@@ -1,6 +1,4 @@
 // Revoked sites, over every check but the port's.
-ghost use Rattle.std.specs.Prelude.{◌<◌};
-
 use super::leaves::{FIRST, SECOND, THIRD, one_key, three_rows};
 use super::signature::{STATEMENT, TAG};
 use checks::{Check, Register, RevocationList};
@@ -11,11 +9,11 @@ pub const NONE: [bool; 16] = [false; 16];
 const ALL: [bool; 16] = [true; 16];
 
 // A mark for one site.
-pub fn only(site: usize) -> [bool; 16]
-    requires { site < 16 }
-{
+pub fn only(site: usize) -> [bool; 16] {
     let mut marks = NONE;
-    marks[site] = true;
+    if let Some(mark) = marks.get_mut(site) {
+        *mark = true;
+    }
     marks
 }
 

@@ -33,8 +33,8 @@ impl<'a> Bench<'a> {
         }
     }
 
-    // One line: a case, or what later cases are about. An enum of these words would be matched
-    // a second time here.
+    // One line: a case, or what later cases are about.
+    // No enum of these words: it would be matched a second time, here.
     fn run_line(&mut self, line: Line<'_>) -> anyhow::Result<()> {
         let tally = &mut self.tally;
         match line.word(0)? {
