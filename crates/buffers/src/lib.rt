@@ -5,7 +5,7 @@ ghost use Rattle.std.specs.Prelude.{◌≡◌, ℕ, ◌+◌, ◌≤◌, List, �
 ghost use Rattle.buffers.specs.Words.{word_from, word_bytes, optional};
 ghost use Rattle.buffers.specs.Lays.{Lays};
 
-// The word at a place.
+// The word at a place. Four bytes by name are as plain as a chunk that has to be unwrapped.
 pub fn word(bytes: &[u8], at: usize) -> u32
     requires { at + 4 ≤ length bytes.now }
     ensures { result ≡ word_from bytes.now at }
@@ -64,7 +64,7 @@ impl Piece for Zeros {
     }
 }
 
-// One piece behind the other.
+// One piece behind the other. Three are a pair in a pair: an impl for triples would be a twin.
 impl<A: Piece, B: Piece> Piece for (A, B) {
     ghost bytes = { λ p. A.bytes p.0 ++ B.bytes p.1 };
 

@@ -51,7 +51,7 @@ impl<T: Drop> From<AllocFailed<T>> for BadText {
 fn is_space(b: u8) -> bool
     ensures { result ≡ is_space b }
 {
-    b == b' ' || b == b'\t' || b == b'\r'
+    matches!(b, b' ' | b'\t' | b'\r')
 }
 
 // Nothing but blanks.
@@ -69,6 +69,7 @@ struct Digit {
 }
 
 impl Digit {
+    // By ranges, since `to_digit` of a char would answer a number of another width.
     fn of(b: u8) -> Option<Digit>
         ensures { option_map (λ d. d.value) result ≡ digit_of b }
     {
