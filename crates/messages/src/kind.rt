@@ -246,7 +246,8 @@ impl Whole for Propose {
     }
 }
 
-// The length of the shortest message of a kind, by the number that a packet has for it.
+// The length of the shortest message of a kind, by the number that a packet has for it: callers
+// have read no more of the packet than that.
 pub fn shortest(kind: u32) -> Option<usize>
     ensures { result ≡ shortest_of kind }
 {

@@ -40,6 +40,7 @@ pub trait Field: Sized {
     ghost reads: { List ℕ → ℕ → Result (Self × ℕ) Malformed };
 
     // What stands at a place, and the place behind it.
+    // Here and at other readers, `within` speaks of lent bytes that no type of the answer holds.
     fn read(packet: &[u8], at: usize) -> Result<(Self, usize), Malformed>
         ensures value { result ≡ reads packet.now at }
         ensures within { IfOk result (λ p. Inside at p.1 packet.now) };
