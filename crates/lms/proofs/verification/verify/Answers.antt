@@ -29,7 +29,7 @@ returns c =
     let path = c.in-Some-read.signed.path.now in
     record {
       value =
-          c.eq.ensures
+          c.same_root.ensures
           ∙ ap (λ t. bytes_eq t known.root.now) (c.root.ensures ∙ ap (Tc 32 5 known.id.now c.in-Some-read.signed.leaf path) c.one_time_key-once.ensures)
           ∙ ap (valid_for (record { form = m32_h5; I = known.id.now; root = known.root.now }) c.args.message.now) c.in-Some-read.ensures
           ∙ ap (λ k. valid_by k c.args.message.now c.args.signature.now) c.in-Some.ensures;
