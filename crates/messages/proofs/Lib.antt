@@ -1,2 +1,3 @@
 pub mod Envelopes
 pub mod Located
+pub mod Ends

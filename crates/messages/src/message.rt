@@ -1,9 +1,9 @@
 // Whole packets: the four messages, and drafts of them.
 ghost use Rattle.std.specs.Prelude.{◌≡◌, ◌≤◌, length, IfOk, Ok};
-ghost use Rattle.wire.specs.Layout.{wholly, message_of, draft_end};
+ghost use Rattle.wire.specs.Layout.{wholly, message_of, progress_of, draft_end};
 ghost use Rattle.messages.specs.Parts.{map_ok, parts_at, told, locate, draft_place};
 
-use super::kind::{Commit, Kind, NewView, Prepare, Propose, Whole, envelope_at};
+use super::kind::{Commit, Kind, NewView, Prepare, Propose, Whole, envelope_at, progress_end};
 use wire::{Claim, Field, Malformed, Packet, Part, ViewChange, word_at};
 
 // Which of the four messages a packet is, with parts of the packet. The certificate of
@@ -63,6 +63,13 @@ pub fn read_message(packet: Packet<'_>) -> Result<Message<'_>, Malformed>
         NewView::NUMBER => read_as::<NewView>(packet),
         _ => Err(Malformed { place: 0 }),
     }
+}
+
+// The layout of a packet that is one progress certificate.
+pub fn read_progress(packet: Packet<'_>) -> Result<(), Malformed>
+    ensures { result ≡ map_ok (λ turns. tt) (progress_of packet.entry.limit.bytes packet.entry.bytes.now) }
+{
+    ends_at(packet.bytes, progress_end(packet, 0)?)
 }
 
 // The place behind the statement of a draft of one kind.

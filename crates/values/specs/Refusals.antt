@@ -1,7 +1,9 @@
 -- Each refusal, as the number and the values that callers are told.
 use Rattle.std.specs.Prelude.{ℕ, List, [], ◌∷◌, ◌++◌, codes, decimal, Some, None, Ok, Err, Option, Result}
+use Rattle.values.specs.declared.refusal.Cause.{Cause}
+use Rattle.values.specs.declared.refusal.Cause.TheVariants.{Count, Round, View, Site, Fix, Tag}
 use Rattle.values.specs.declared.refusal.Refusal.{Refusal}
-use Rattle.values.specs.declared.refusal.Refusal.TheVariants.{Limits, Short, Layout, IllegalFix}
+use Rattle.values.specs.declared.refusal.Refusal.TheVariants.{Limits, Short, Layout, WrongView, IllegalFix, BadCertificate, Conflict}
 
 -- a refusal's number, and the values that go with it
 pub record Refused : Type 0 where
@@ -24,11 +26,34 @@ layout place = record { number = 3; values = place ∷ [] }
 abbrev pub illegal : ℕ → Refused
 illegal place = record { number = 7; values = place ∷ [] }
 
+-- the view at a place is not one that it may be
+abbrev pub wrong_view : ℕ → Refused
+wrong_view place = record { number = 5; values = place ∷ [] }
+
+-- a certificate is bad at a place, for a cause; the depth is 1, or 2 in a certificate inside another
+abbrev pub bad_certificate : ℕ → ℕ → ℕ → Refused
+bad_certificate place cause depth = record { number = 12; values = place ∷ cause ∷ depth ∷ [] }
+
+-- two fixes are certified in the highest view that has a commit certificate
+abbrev pub conflicting : Refused
+conflicting = record { number = 14; values = [] }
+
+abbrev pub cause_number : Cause → ℕ
+cause_number Count = 1
+cause_number Round = 2
+cause_number View = 3
+cause_number Site = 4
+cause_number Fix = 5
+cause_number Tag = 6
+
 abbrev pub refused_as : Refusal → Refused
 refused_as Limits = limits
 refused_as Short = short
 refused_as (Layout place) = layout place
+refused_as (WrongView place) = wrong_view place
 refused_as (IllegalFix place) = illegal place
+refused_as (BadCertificate place cause depth) = bad_certificate place (cause_number cause) depth
+refused_as Conflict = conflicting
 
 -- an answer as callers are told it, with the value seen by f
 abbrev pub answered : {A B : Type 0} → (A → B) → Result A Refusal → Result B Refused
@@ -40,10 +65,14 @@ abbrev pub first_of : List ℕ → Option ℕ
 first_of [] = None
 first_of (x ∷ xs) = Some x
 
--- how a refusal is printed: its number, and its place if it has one
-abbrev pub place_text : List ℕ → List ℕ
-place_text [] = []
-place_text (x ∷ xs) = codes " at " ++ decimal x
+-- how a refusal is printed: its number, and each of its values behind what it is
+abbrev pub value_names : List (List ℕ)
+value_names = codes " at " ∷ codes ", cause " ∷ codes ", depth " ∷ []
+
+abbrev pub values_text : List (List ℕ) → List ℕ → List ℕ
+values_text (name ∷ names) (x ∷ xs) = name ++ (decimal x ++ values_text names xs)
+values_text (name ∷ names) [] = []
+values_text [] xs = []
 
 abbrev pub refusal_text : Refused → List ℕ
-refusal_text r = codes "refused with " ++ (decimal r.number ++ place_text r.values)
+refusal_text r = codes "refused with " ++ (decimal r.number ++ values_text value_names r.values)

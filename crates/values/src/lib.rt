@@ -7,4 +7,4 @@ mod refusal;
 
 pub use fix::{Angle, Fix, Report, Value};
 pub use fleet::{Fleet, TagLimit, View};
-pub use refusal::Refusal;
+pub use refusal::{Cause, Refusal};

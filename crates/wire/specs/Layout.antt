@@ -141,6 +141,10 @@ commit_of limit b = wholly b (envelope_at 3 (claim_at b) (tag_at limit b) (λ c.
 unfoldable pub new_view_of : ℕ → List ℕ → Result Content Malformed
 new_view_of limit b = wholly b (bind (turn_at limit b 0) (λ p. Ok (new_view p.0, p.1)))
 
+-- the whole packet as one progress certificate
+unfoldable pub progress_of : ℕ → List ℕ → Result (List Turn) Malformed
+progress_of limit b = wholly b (progress_at limit b 0)
+
 abbrev pub message_by : ℕ → List ℕ → ℕ → Result Content Malformed
 message_by limit b k =
     cond (k == 1) (propose_of limit b)

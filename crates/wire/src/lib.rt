@@ -8,6 +8,8 @@ mod tag;
 mod words;
 
 pub use certificate::{Counted, Entry, count_at};
-pub use statement::{COMMIT, Claim, Head, NEW_VIEW, PREPARE, PROPOSE, Statement, ViewChange};
+pub use statement::{
+    COMMIT, Claim, Head, NEW_VIEW, PREPARE, PROPOSE, Statement, ViewChange, report_length,
+};
 pub use tag::{Part, pad};
 pub use words::{Field, Malformed, Packet, word_at};

@@ -168,7 +168,8 @@ impl Piece for Statement {
     }
 }
 
-fn report_length(report: Option<Report>) -> usize
+// How many bytes a report takes.
+pub fn report_length(report: Option<Report>) -> usize
     ensures value { result ≡ length (report_bytes report) }
     ensures bound { result ≤ 20 }
 {

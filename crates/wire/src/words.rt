@@ -1,6 +1,6 @@
 // Packets in lent bytes, and their words: 32 bits, the highest byte first.
 ghost use Rattle.std.specs.Prelude.{◌≡◌, ℕ, ◌+◌, ◌≤◌, List, length, IfOk, Result, OnOk};
-ghost use Rattle.values.specs.declared.refusal.Refusal.TheVariants.{Layout};
+ghost use Rattle.values.specs.Refusals.{layout, refused_as};
 ghost use Rattle.wire.specs.declared.words.Malformed.{Malformed};
 ghost use Rattle.wire.specs.Words.{word_at};
 ghost use Rattle.wire.specs.Places.{Inside};
@@ -15,7 +15,7 @@ pub struct Malformed {
 }
 
 impl From<Malformed> for Refusal {
-    ghost from_gives = { λ fault r. r ≡ Layout fault.place };
+    ghost from_gives = { λ fault r. refused_as r ≡ layout fault.place };
 
     fn from(fault: Malformed) -> Refusal {
         Refusal::Layout { place: fault.place }
