@@ -1,0 +1,11 @@
+pub mod Rules
+pub mod Count
+pub mod Judged
+pub mod Agree
+pub mod Grow
+pub mod Keep
+pub mod Witness
+pub mod Laws
+pub mod Verdict
+pub mod Examples
+pub mod OneFinding
