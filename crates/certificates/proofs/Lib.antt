@@ -1,0 +1,11 @@
+pub mod Passing
+pub mod Reading
+pub mod Votes
+pub mod Turns
+pub mod Entries
+pub mod Verdicts
+pub mod Whole
+pub mod Laws
+pub mod Meaning
+pub mod Runs
+pub mod Witness
