@@ -1,12 +1,63 @@
 // What a line of text asks for.
 use hexadecimal::{BadText, decode};
 use std::alloc::Global;
+use std::fmt;
 
-// A packet to be explained, or a draft and a tag to be sealed, with a + between them.
+// The numbers of a judging line, in their order.
+#[derive(Clone, Copy)]
+pub struct Terms {
+    pub f: u32,
+    pub t: u32,
+    pub limit: u32,
+    pub round: u32,
+    pub view: u32,
+}
+
+// A certificate that is to be judged, over a register.
+#[derive(Drop)]
+pub struct Trial {
+    pub terms: Terms,
+    pub register: Vec<u8>,
+    pub certificate: Vec<u8>,
+}
+
+// A packet to be explained; a draft and a tag to be sealed, with a + between them; or a trial,
+// with a | between each two of its parts.
 #[derive(Drop)]
 pub enum Task {
     Explain { packet: Vec<u8> },
     Seal { draft: Vec<u8>, tag: Vec<u8> },
+    Judge(Trial),
+}
+
+// Why a line asks for nothing.
+#[derive(Clone, Copy)]
+pub enum BadLine {
+    Text(BadText),
+    // a judging line has one | alone
+    TwoParts,
+    // what comes first on a judging line is something else than its numbers
+    NoTerms,
+}
+
+impl From<BadText> for BadLine {
+    fn from(bad: BadText) -> BadLine {
+        BadLine::Text(bad)
+    }
+}
+
+// That a line is bad is not said where memory fails.
+impl fmt::Display for BadLine {
+    fn fmt<W: fmt::Write>(&self, f: &mut fmt::Formatter<W>) -> fmt::Result {
+        match self {
+            BadLine::Text(BadText::NoMemory) => write!(f, "{}", BadText::NoMemory),
+            BadLine::Text(bad) => write!(f, "bad line: {bad}"),
+            BadLine::TwoParts => f.write_str("bad line: two parts where three have to be"),
+            BadLine::NoTerms => {
+                f.write_str("bad line: the first part is not five numbers of 32 bits")
+            }
+        }
+    }
 }
 
 // What stands before the first mark, and what stands behind it.
@@ -30,8 +81,60 @@ fn behind(start: usize, bad: BadText) -> BadText {
     }
 }
 
+// The bytes of the part of a line that starts at a character.
+fn decode_at(heap: Global, part: &[u8], start: usize) -> Result<Vec<u8>, BadText> {
+    decode(heap, part).map_err(|bad| behind(start, bad))
+}
+
+fn is_blank(b: u8) -> bool {
+    matches!(b, b' ' | b'\t' | b'\r')
+}
+
+// A decimal number of 32 bits.
+fn number(word: &[u8]) -> Option<u32> {
+    word.iter().try_fold(0u32, |so_far, b| {
+        let digit = char::from(*b).to_digit(10)?;
+        so_far.checked_mul(10)?.checked_add(digit)
+    })
+}
+
+impl Terms {
+    // Five numbers with blanks between them, and nothing else.
+    fn read(text: &[u8]) -> Option<Terms> {
+        let mut words = text.split(|b| is_blank(*b)).filter(|word| !word.is_empty());
+        let terms = Terms {
+            f: number(words.next()?)?,
+            t: number(words.next()?)?,
+            limit: number(words.next()?)?,
+            round: number(words.next()?)?,
+            view: number(words.next()?)?,
+        };
+        match words.next() {
+            None => Some(terms),
+            Some(_) => None,
+        }
+    }
+}
+
+impl Trial {
+    // A judging line, split at its first |.
+    fn read(heap: Global, terms: &[u8], parts: &[u8]) -> Result<Trial, BadLine> {
+        let (register, certificate) = split_once(parts, b'|').ok_or(BadLine::TwoParts)?;
+        let second = terms.len().saturating_add(1);
+        let third = second.saturating_add(register.len() + 1);
+        Ok(Trial {
+            terms: Terms::read(terms).ok_or(BadLine::NoTerms)?,
+            register: decode_at(heap, register, second)?,
+            certificate: decode_at(heap, certificate, third)?,
+        })
+    }
+}
+
 impl Task {
-    pub fn read(heap: Global, text: &[u8]) -> Result<Task, BadText> {
+    pub fn read(heap: Global, text: &[u8]) -> Result<Task, BadLine> {
+        if let Some((terms, parts)) = split_once(text, b'|') {
+            return Ok(Task::Judge(Trial::read(heap, terms, parts)?));
+        }
         let Some((draft, tag)) = split_once(text, b'+') else {
             return Ok(Task::Explain {
                 packet: decode(heap, text)?,
@@ -39,7 +142,7 @@ impl Task {
         };
         Ok(Task::Seal {
             draft: decode(heap, draft)?,
-            tag: decode(heap, tag).map_err(|bad| behind(draft.len() + 1, bad))?,
+            tag: decode_at(heap, tag, draft.len() + 1)?,
         })
     }
 }

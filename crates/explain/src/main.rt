@@ -1,15 +1,18 @@
-// Explains packets: lines of hexadecimal text in, a few lines of plain words out for each.
+// Explains packets and judges certificates: lines of hexadecimal text in, a few lines of plain
+// words out for each.
 #![tactic(auto)]
 
+mod judging;
 mod line;
 mod page;
 mod pieces;
 
 use anyhow::anyhow;
-use line::Task;
+use judging::Case;
+use line::{Task, Trial};
 use packets::seal;
 use page::Page;
-use pieces::{Grouped, Meant, Unread};
+use pieces::{Grouped, Meant};
 use std::env;
 use std::io::{BufRead, BufReader};
 use values::{Refusal, TagLimit};
@@ -74,6 +77,18 @@ impl Explainer<'_> {
         }
     }
 
+    // A progress certificate, and what it lets be proposed.
+    fn explain_trial(self, trial: &Trial) -> anyhow::Result<()> {
+        let rt = self.rt;
+        match Case::new(trial) {
+            Ok(case) => case.show(rt),
+            Err(refusal) => {
+                println!(rt; "{}", Meant(refusal))?;
+                Ok(())
+            }
+        }
+    }
+
     // One line, if there is more on it than a comment.
     fn explain_line(self, number: usize, line: &[u8]) -> anyhow::Result<()> {
         let rt = self.rt;
@@ -85,8 +100,9 @@ impl Explainer<'_> {
         match Task::read(rt.alloc(), text) {
             Ok(Task::Explain { packet }) => self.explain_packet(packet.as_slice(), 2),
             Ok(Task::Seal { draft, tag }) => self.explain_draft(draft.as_slice(), tag.as_slice()),
+            Ok(Task::Judge(trial)) => self.explain_trial(&trial),
             Err(bad) => {
-                println!(rt; "{}", Unread(bad))?;
+                println!(rt; "{bad}")?;
                 Ok(())
             }
         }

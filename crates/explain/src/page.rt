@@ -31,7 +31,7 @@ impl<'a> Page<'a> {
         }
     }
 
-    fn line<D: fmt::Display + Drop>(self, text: D) -> io::Result<()> {
+    pub fn line<D: fmt::Display + Drop>(self, text: D) -> io::Result<()> {
         let margin = self.margin;
         println!(self.rt; "{:margin$}{text}", "")
     }
@@ -137,9 +137,10 @@ impl<'a> Page<'a> {
         Ok(())
     }
 
-    // A progress certificate, as whole: each new-view, under it.
+    // A progress certificate, as whole: each new-view, under it. It may be inside a propose, or
+    // a packet of its own.
     // A loop shared with commit certificates would take two closures, and be no plainer.
-    fn progress(self, place: usize) -> io::Result<()> {
+    pub fn progress(self, place: usize) -> io::Result<()> {
         let Ok(count) = word_at(self.packet.bytes, place) else {
             return Ok(());
         };

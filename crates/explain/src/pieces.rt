@@ -1,7 +1,7 @@
 // Pieces of the lines, by the values that they show.
-use hexadecimal::BadText;
 use std::fmt;
-use values::{Angle, Fix, Refusal, Report};
+use values::{Angle, Cause, Fix, Refusal, Report};
+use verdicts::{Forced, Forcing, Verdict};
 use wire::{Head, Part};
 
 #[derive(Clone, Copy)]
@@ -71,7 +71,7 @@ impl fmt::Display for Fixed {
         };
         write!(f, "fix {track} {longitude} {latitude}, {north} {east}")?;
         if !self.0.is_legal() {
-            f.write_str(", not legal (sites refuse it with 7)")?;
+            f.write_str(", not legal")?;
         }
         Ok(())
     }
@@ -94,7 +94,40 @@ impl fmt::Display for Reported {
 const LAYOUT: &str =
     "the layout is broken there: a word or a tag is cut, a kind is unknown or not allowed, a bool is above 1, a count is above 16, a tag is too long or filled wrongly, or bytes are left over";
 
-// A refusal, and what it means.
+// What is wrong in a certificate, by its cause.
+#[derive(Clone, Copy)]
+struct Caused(Cause);
+
+impl fmt::Display for Caused {
+    fn fmt<W: fmt::Write>(&self, f: &mut fmt::Formatter<W>) -> fmt::Result {
+        f.write_str(match self.0 {
+            Cause::Count => "it has more entries than it takes, or fewer",
+            Cause::Round => "an entry is of another round",
+            Cause::View => {
+                "an entry is of another view, or reports a view that is 0 or not below the judged one"
+            }
+            Cause::Site => "a site is no site of the fleet, or not above the one before",
+            Cause::Fix => "a reported fix is not legal",
+            Cause::Tag => "a tag is not vouched for",
+        })
+    }
+}
+
+// Where a certificate stands, by its depth.
+#[derive(Clone, Copy)]
+struct Nested(u32);
+
+impl fmt::Display for Nested {
+    fn fmt<W: fmt::Write>(&self, f: &mut fmt::Formatter<W>) -> fmt::Result {
+        let depth = self.0;
+        match depth {
+            1 => f.write_str("depth 1: in the certificate itself"),
+            _ => write!(f, "depth {depth}: in the commit certificate of an entry"),
+        }
+    }
+}
+
+// A refusal, and what it means. Only judging answers that a view is wrong.
 #[derive(Clone, Copy)]
 pub struct Meant(pub Refusal);
 
@@ -105,21 +138,36 @@ impl fmt::Display for Meant {
             Refusal::Limits => "outside the limits of a fleet or a tag",
             Refusal::Short => "a buffer is too short",
             Refusal::Layout { .. } => LAYOUT,
+            Refusal::WrongView { .. } => "the view is 0",
             Refusal::IllegalFix { .. } => "the fix there is not legal",
+            Refusal::BadCertificate { cause, depth, .. } => {
+                return write!(f, "{refusal}: {} ({})", Caused(cause), Nested(depth));
+            }
+            Refusal::Conflict => {
+                "two fixes are certified in the highest view that has a commit certificate"
+            }
         };
         write!(f, "{refusal}: {meaning}")
     }
 }
 
-// Why a line is not read. That it is bad is not said where memory fails.
+// What judging answers: what may be proposed, or why it refuses.
 #[derive(Clone, Copy)]
-pub struct Unread(pub BadText);
+pub struct Judged(pub Result<Verdict, Refusal>);
 
-impl fmt::Display for Unread {
+impl fmt::Display for Judged {
     fn fmt<W: fmt::Write>(&self, f: &mut fmt::Formatter<W>) -> fmt::Result {
         match self.0 {
-            BadText::NoMemory => write!(f, "{}", self.0),
-            bad => write!(f, "bad line: {bad}"),
+            Ok(Verdict::Free) => f.write_str("free: any legal fix may be proposed"),
+            Ok(Verdict::Forced(Forced { value, view, by })) => {
+                let kind = match by {
+                    Forcing::Fast => "fast",
+                    Forcing::Commit => "commit",
+                };
+                let fix = Fixed(value.into());
+                write!(f, "forced by the {kind} certificate of view {view}: {fix}")
+            }
+            Err(refusal) => write!(f, "{}", Meant(refusal)),
         }
     }
 }
