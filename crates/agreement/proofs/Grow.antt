@@ -1,12 +1,12 @@
 -- What was stated stays so, and the rules go on holding as one more statement is drafted.
-use Rattle.std.proofs.Common.{◌≡◌, ℕ, ◌<◌, ◌≤◌, true, ◌⊎◌, List, [], ◌∷◌, ◌++◌, Some, None, Option, sym, refl, ap, ◌∙◌, subst₂, inl, inr, arith}
+use Rattle.std.proofs.Common.{◌≡◌, ℕ, ◌<◌, ◌≤◌, true, ◌⊎◌, List, [], ◌∷◌, Some, None, Option, sym, refl, ap, ◌∙◌, subst₂, inl, inr, arith}
 use Rattle.values.specs.declared.fix.Value.{Value}
 use Rattle.values.specs.declared.fix.Report.{Report}
 use Rattle.agreement.specs.Sites.{SiteSet}
 use Rattle.agreement.specs.Statements.{Said, propose, prepare, commit, new_view, who, In, newest, before, Each, Of, Certificate, Entry, judged, Allows, FormedCertificate, Formed, prepares_of, certificate_statements, statements, Drafted}
 use Rattle.agreement.proofs.Rules.{Certifies, Sound, PreparedIn, CommittedIn, SpokeIn, RulesIn, BackedIn, ProgressIn, DecidedIn}
 use Rattle.agreement.proofs.Rules.Decided.{fast_path, recovery_path}
-use Rattle.agreement.proofs.Agree.{each_map, of_map}
+use Rattle.agreement.proofs.Agree.{each_map, each_split, of_map}
 
 abbrev pub Within : List Said → List Said → Type 0
 Within l m = (x : Said) → In x l → In x m
@@ -70,10 +70,6 @@ module _ (f t : ℕ) (good : SiteSet) where
     decided_more {v} {d} (recovery_path S h) = recovery_path S (record { enough = h.enough; committed = λ i k g q. sub (commit i v d) (h.committed i k g q) })
 
   -- ---- what was vouched for was drafted ----
-
-  each_split : {A : Type 0} (P : A → Type 0) (xs ys : List A) → Each P (xs ++ ys) → Each P xs × Each P ys
-  each_split P [] ys h = (tt, h)
-  each_split P (x ∷ xs) ys h = let r = each_split P xs ys h.1 in ((h.0, r.0), r.1)
 
   module _ (log : List Said) where
     meant_by : (r : Report) (is : List ℕ) → Drafted good log (prepares_of r is) → Each (λ i. good i ≡ true → PreparedIn log i r.view r.value) is

@@ -1,5 +1,5 @@
 -- The entries of a progress certificate, one by one.
-use Rattle.std.proofs.Common.{◌≡◌, ℕ, zero, suc, ◌+◌, ◌<◌, List, [], ◌∷◌, ◌++◌, length, take, set, Ok, Err, Result, cond, eqb, sym, refl, ap, ◌∙◌, arith}
+use Rattle.std.proofs.Common.{◌≡◌, ℕ, zero, suc, ◌+◌, ◌<◌, List, [], ◌∷◌, ◌++◌, length, take, set, Ok, Err, Result, cond, eqb, refl, ap, ◌∙◌, arith}
 use Rattle.std.specs.Result.{IsOk}
 use Rattle.values.specs.Refusals.{Refused}
 use Rattle.verdicts.specs.declared.rule.Reported.{Reported}
@@ -13,35 +13,16 @@ use Rattle.certificates.specs.Faults.{bad_count, at_depth}
 use Rattle.certificates.specs.Examining.{entry_steps, entries_steps, entries_needed, progress_steps}
 use Rattle.certificates.specs.Reading.{read_of}
 use Rattle.certificates.specs.Judging.{reports_of}
-use Rattle.certificates.proofs.Passing.{next, passed_append, answered_ok, answered_err}
-use Rattle.certificates.proofs.Reading.{first_read, counted_read, count_fails}
+use Rattle.certificates.proofs.Passing.{next, answered_ok, answered_err}
+use Rattle.certificates.proofs.Reading.{counted_read, count_fails}
+use Rattle.certificates.proofs.Ascending.{turned}
 use Rattle.certificates.proofs.Turns.{turn_ends}
 
 abbrev pub report_of : Turn → Reported
 report_of m = record { prepared = m.prepared; committed = reported m.committed }
 
 module _ (limit : ℕ) (b : List ℕ) (v : Vouched) (f t round view : ℕ) where
-  -- the first of the entries that are left, and those behind it
-  pub record EntryTurned (n m low at : ℕ) (p : Turn × ℕ) : Type 0 where
-    pub others : IsOk (many_at (turn_at limit b) m p.1)
-    pub steps : passed v (entries_steps f t round view low at (read_of (many_at (turn_at limit b) n at)))
-        ≡ next (passed v (entry_steps f t round view low at p.0)) (passed v (entries_steps f t round view (p.0.head.site + 1) p.1 (read_of (many_at (turn_at limit b) m p.1))))
-    pub reports : reports_of (read_of (many_at (turn_at limit b) n at)) ≡ report_of p.0 ∷ reports_of (read_of (many_at (turn_at limit b) m p.1))
-
-  pub entry_turn : (n m low at : ℕ) (p : Turn × ℕ) → n ≡ suc m → IsOk (many_at (turn_at limit b) n at) → turn_at limit b at ≡ Ok p → EntryTurned n m low at p
-  entry_turn n m low at p e h k =
-      let f1 = first_read (turn_at limit b) n m at p e h k in
-      let rest = read_of (many_at (turn_at limit b) m p.1) in
-      record {
-        others = f1.others;
-        steps =
-            ap (λ (xs : List Turn). passed v (entries_steps f t round view low at xs)) f1.split
-            ∙ passed_append v (entry_steps f t round view low at p.0) (entries_steps f t round view (p.0.head.site + 1) (at + length (turn_bytes p.0)) rest)
-            ∙ ap (λ (z : ℕ). next (passed v (entry_steps f t round view low at p.0)) (passed v (entries_steps f t round view (p.0.head.site + 1) z rest))) (sym (turn_ends limit b at p k));
-        reports = ap reports_of f1.split;
-      }
-
-  -- the same once the entry has passed, by what was answered for it
+  -- the first of the entries that are left, once it has passed, by what was answered for it
   pub record EntryOn (n m low at : ℕ) (said : ViewChange) (end : ℕ) : Type 0 where
     pub others : IsOk (many_at (turn_at limit b) m end)
     pub steps : passed v (entries_steps f t round view low at (read_of (many_at (turn_at limit b) n at)))
@@ -51,14 +32,14 @@ module _ (limit : ℕ) (b : List ℕ) (v : Vouched) (f t round view : ℕ) where
   pub entry_on : (n m low at : ℕ) (p : Turn × ℕ) (said : ViewChange) (end : ℕ) → n ≡ suc m → IsOk (many_at (turn_at limit b) n at) → turn_at limit b at ≡ Ok p
       → ◌≡◌ {A = Result (ViewChange × ℕ) Refused} (Ok (said, end)) (answering (passed v (entry_steps f t round view low at p.0)) (change_of p.0, p.1)) → EntryOn n m low at said end
   entry_on n m low at p said end e h k r =
-      let u = entry_turn n m low at p e h k in
+      let u = turned (turn_at limit b) (λ (m : Turn). m.head.site) turn_bytes (entry_steps f t round view) (turn_ends limit b) v n m low at p e h k in
       let a = answered_ok (passed v (entry_steps f t round view low at p.0)) (change_of p.0, p.1) (said, end) r in
       let said_is : said ≡ change_of p.0 = ap (λ (z : ViewChange × ℕ). z.0) a.1 in
       let end_is : end ≡ p.1 = ap (λ (z : ViewChange × ℕ). z.1) a.1 in
       rw (said_is, end_is) (record {
         others = u.others;
         steps = u.steps ∙ ap (λ (z : Result (Unit {0}) Refused). next z (passed v (entries_steps f t round view (p.0.head.site + 1) p.1 (read_of (many_at (turn_at limit b) m p.1))))) a.0;
-        reports = u.reports;
+        reports = ap reports_of u.split;
       })
 
   -- an entry that fails, and what the whole comes to
@@ -66,7 +47,7 @@ module _ (limit : ℕ) (b : List ℕ) (v : Vouched) (f t round view : ℕ) where
       → ◌≡◌ {A = Result (ViewChange × ℕ) Refused} (Err fault) (answering (passed v (entry_steps f t round view low at p.0)) (change_of p.0, p.1))
       → passed v (entries_steps f t round view low at (read_of (many_at (turn_at limit b) n at))) ≡ Err fault
   entry_fails n m low at p fault e h k r =
-      let u = entry_turn n m low at p e h k in
+      let u = turned (turn_at limit b) (λ (m : Turn). m.head.site) turn_bytes (entry_steps f t round view) (turn_ends limit b) v n m low at p e h k in
       let a = answered_err (passed v (entry_steps f t round view low at p.0)) (change_of p.0, p.1) fault r in
       u.steps ∙ ap (λ (z : Result (Unit {0}) Refused). next z (passed v (entries_steps f t round view (p.0.head.site + 1) p.1 (read_of (many_at (turn_at limit b) m p.1))))) a
 

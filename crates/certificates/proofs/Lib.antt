@@ -1,5 +1,6 @@
 pub mod Passing
 pub mod Reading
+pub mod Ascending
 pub mod Votes
 pub mod Turns
 pub mod Entries

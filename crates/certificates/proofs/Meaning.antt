@@ -15,6 +15,7 @@ use Rattle.checks.specs.Vouching.{Vouched}
 use Rattle.agreement.specs.Sites.{SiteSet, Ascending}
 use Rattle.agreement.specs.Statements.{Said, new_view, In, Each, Of, Certificate, Entry, report_of, Quorum, FormedCertificate, Formed, prepares_of, certificate_statements, statements, Drafted}
 use Rattle.agreement.specs.Statements as abstract
+use Rattle.agreement.proofs.Agree.{each_split}
 use Rattle.certificates.specs.Steps.{Question, granted, Step, test, ask, passed, asked, blamed}
 use Rattle.certificates.specs.Faults.{Faulted, failing, other_round, other_view, other_site, bad_count, bad_tag, at_depth}
 use Rattle.certificates.specs.Examining.{rising, prepare_of, votes_steps, certified_steps, report_view, report_fix, change_steps, behind_tag, entries_needed, entry_steps, entries_steps, progress_steps}
@@ -76,10 +77,6 @@ module _ (v : Vouched) (f t round view : ℕ) where
       ]
 
 -- ---- questions of lists of steps ----
-
-each_split : {A : Type 0} (P : A → Type 0) (xs ys : List A) → Each P (xs ++ ys) → Each P xs × Each P ys
-each_split P [] ys h = (tt, h)
-each_split P (x ∷ xs) ys h = let r = each_split P xs ys h.1 in ((h.0, r.0), r.1)
 
 each_join : {A : Type 0} (P : A → Type 0) (xs ys : List A) → Each P xs → Each P ys → Each P (xs ++ ys)
 each_join P [] ys h k = k

@@ -15,6 +15,12 @@ use Rattle.certificates.specs.Faults.{Faulted, bad_count, other_round, other_vie
 abbrev pub rising : ℕ → ℕ → ℕ → Bool
 rising n low site = nat_le low site && nat_lt site n
 
+-- the steps of things that stand one behind the other from a place on, with ascending sites: each is told which site it may
+-- have at least, and its place
+abbrev pub ascending : {A F : Type 0} → (A → ℕ) → (A → List ℕ) → (ℕ → ℕ → A → List (Step F)) → ℕ → ℕ → List A → List (Step F)
+ascending site bytes own low place [] = []
+ascending site bytes own low place (x ∷ xs) = own low place x ++ ascending site bytes own (site x + 1) (place + length (bytes x)) xs
+
 -- ---- commit certificates ----
 
 -- the prepare that an entry vouches for
@@ -30,8 +36,7 @@ module _ (f t round : ℕ) where
       ∷ []
 
   abbrev pub votes_steps : Report → ℕ → ℕ → List Vote → List (Step Faulted)
-  votes_steps r low place [] = []
-  votes_steps r low place (x ∷ xs) = vote_steps r low place x ++ votes_steps r (x.site + 1) (place + length (vote_bytes x)) xs
+  votes_steps r low place xs = ascending (λ (x : Vote). x.site) vote_bytes (vote_steps r) low place xs
 
   -- a commit certificate at a place: n - f - t entries, their sites ascending, each vouching for that site's prepare of the report
   abbrev pub certificate_steps : Report → ℕ → List Vote → List (Step Faulted)
@@ -82,8 +87,7 @@ module _ (f t round view : ℕ) where
       ++ blamed (at_depth 2) (certified_steps f t round (behind_tag place m) m.committed)
 
   abbrev pub entries_steps : ℕ → ℕ → List Turn → List (Step Refused)
-  entries_steps low place [] = []
-  entries_steps low place (m ∷ ms) = entry_steps low place m ++ entries_steps (m.head.site + 1) (place + length (turn_bytes m)) ms
+  entries_steps low place ms = ascending (λ (m : Turn). m.head.site) turn_bytes entry_steps low place ms
 
   -- a progress certificate at a place
   abbrev pub progress_steps : ℕ → List Turn → List (Step Refused)

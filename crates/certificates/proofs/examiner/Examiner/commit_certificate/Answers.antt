@@ -1,7 +1,10 @@
 -- Each turn of the loop takes one entry from what is left.
 use Rattle.std.proofs.Common.{rules, ◌≡◌, ◌+◌, ◌-◌, sym, ◌∙◌, arith}
-use Rattle.wire.specs.Contents.{Vote}
-use Rattle.certificates.proofs.Votes.{vote_turn, certificate_passes, certificate_entries, certificate_counted}
+use Rattle.wire.specs.Contents.{Vote, vote_bytes}
+use Rattle.wire.specs.Layout.{vote_at}
+use Rattle.certificates.specs.Examining.{vote_steps}
+use Rattle.certificates.proofs.Ascending.{turned}
+use Rattle.certificates.proofs.Votes.{vote_ends, certificate_passes, certificate_entries, certificate_counted}
 use Rattle.certificates.proofs.examiner.Examiner.commit_certificate.Goals as goal
 
 pub returns-in_err-count : goal.returns-in_err-count
@@ -32,7 +35,7 @@ returns-in_err-vote g c =
     let e = certificate_passes s.packet.limit.bytes s.packet.bytes.now (g.C.Check.vouched s.check.now) s.fleet.f s.fleet.t s.round c.args.report c.args.at c.in_ok-count.count
     (sym c.count_at.ensures.value ∙ c.in_ok-count.was) c.requires in
     let x : Vote = record { site = c.in_ok-entry.entry.site; tag = c.in_ok-entry.entry.tag.bytes.now } in
-    let u = vote_turn s.packet.limit.bytes s.packet.bytes.now (g.C.Check.vouched s.check.now) s.fleet.f s.fleet.t s.round c.args.report
+    let u = turned (vote_at s.packet.limit.bytes s.packet.bytes.now) (λ (y : Vote). y.site) vote_bytes (vote_steps s.fleet.f s.fleet.t s.round c.args.report) (vote_ends s.packet.limit.bytes s.packet.bytes.now) (g.C.Check.vouched s.check.now)
     (c.in_ok-count.count - c.loop.counter) (c.in_ok-count.count - (c.loop.counter + 1)) c.loop.low c.loop.next (x, c.in_ok-entry.end) (omega arith) c.loop.invariant.reads (sym c.in_ok-entry.ensures.value) in
     λ depth. let e' = e depth in search rules
 
@@ -40,7 +43,7 @@ pub loop-preserved : goal.loop-preserved
 loop-preserved g c =
     let s = c.args.self.now in
     let x : Vote = record { site = c.in_ok-entry.entry.site; tag = c.in_ok-entry.entry.tag.bytes.now } in
-    let u = vote_turn s.packet.limit.bytes s.packet.bytes.now (g.C.Check.vouched s.check.now) s.fleet.f s.fleet.t s.round c.args.report
+    let u = turned (vote_at s.packet.limit.bytes s.packet.bytes.now) (λ (y : Vote). y.site) vote_bytes (vote_steps s.fleet.f s.fleet.t s.round c.args.report) (vote_ends s.packet.limit.bytes s.packet.bytes.now) (g.C.Check.vouched s.check.now)
     (c.in_ok-count.count - c.loop.counter) (c.in_ok-count.count - (c.loop.counter + 1)) c.loop.low c.loop.next (x, c.in_ok-entry.end) (omega arith) c.loop.invariant.reads (sym c.in_ok-entry.ensures.value) in
     record { reads = u.others; rest = search rules }
 
