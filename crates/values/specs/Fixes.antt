@@ -31,6 +31,10 @@ legal f =
     && between_z (negsuc 107999999) (pos 108000000) f.longitude
     && between_z (negsuc 53999999) (pos 54000000) f.latitude
 
--- the test of a fix that stands at a place
+-- the words of a legal fix
+abbrev pub legal_value : Value → Bool
+legal_value v = legal (fix_of v)
+
+-- the test of a value that stands at a place
 abbrev pub legal_at : Value → ℕ → Result (Unit {0}) Refused
-legal_at v place = cond (legal (fix_of v)) (Ok tt) (Err (illegal place))
+legal_at v place = cond (legal_value v) (Ok tt) (Err (illegal place))

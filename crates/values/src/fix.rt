@@ -1,7 +1,7 @@
 // What sites agree on: three words of the line, and the fix that they write.
 ghost use Rattle.std.specs.Prelude.{◌≡◌};
 ghost use Rattle.values.specs.Refusals.{answered};
-ghost use Rattle.values.specs.Fixes.{angle_of, fix_of, words_of, legal, legal_at};
+ghost use Rattle.values.specs.Fixes.{angle_of, fix_of, words_of, legal, legal_value, legal_at};
 ghost use Rattle.values.specs.Lines.{value_bytes, viewed_bytes};
 
 use super::refusal::Refusal;
@@ -93,11 +93,18 @@ impl Fix {
 }
 
 impl Value {
+    // Whether it writes a legal fix.
+    pub fn is_legal(&self) -> bool
+        ensures { result ≡ legal_value self.now }
+    {
+        Fix::from(*self).is_legal()
+    }
+
     // The test of a value that stands at a place: it must write a legal fix.
     pub fn test(&self, place: usize) -> Result<(), Refusal>
         ensures { answered (λ u. u) result ≡ legal_at self.now place }
     {
-        if !Fix::from(*self).is_legal() {
+        if !self.is_legal() {
             return Err(Refusal::IllegalFix { place });
         }
         Ok(())
