@@ -5,4 +5,4 @@ mod kind;
 mod message;
 
 pub use kind::{Commit, Envelope, Kind, NewView, Prepare, Propose, Whole, envelope_at, shortest};
-pub use message::{Message, draft_end, read_message, read_progress};
+pub use message::{Message, draft_end, read_message, read_new_view, read_progress};

@@ -1,6 +1,6 @@
 // Whole packets: the four messages, and drafts of them.
 ghost use Rattle.std.specs.Prelude.{◌≡◌, ◌≤◌, length, IfOk, Ok};
-ghost use Rattle.wire.specs.Layout.{wholly, message_of, progress_of, draft_end};
+ghost use Rattle.wire.specs.Layout.{wholly, turn_at, message_of, progress_of, draft_end};
 ghost use Rattle.messages.specs.Parts.{map_ok, parts_at, told, locate, draft_place};
 
 use super::kind::{Commit, Kind, NewView, Prepare, Propose, Whole, envelope_at, progress_end};
@@ -70,6 +70,14 @@ pub fn read_progress(packet: Packet<'_>) -> Result<(), Malformed>
     ensures { result ≡ map_ok (λ turns. tt) (progress_of packet.entry.limit.bytes packet.entry.bytes.now) }
 {
     ends_at(packet.bytes, progress_end(packet, 0)?)
+}
+
+// The layout of a packet that is one new-view.
+pub fn read_new_view(packet: Packet<'_>) -> Result<(), Malformed>
+    ensures { result ≡ map_ok (λ turn. tt) (wholly packet.entry.bytes.now (turn_at packet.entry.limit.bytes packet.entry.bytes.now 0)) }
+{
+    let (_, end) = envelope_at::<NewView>(packet, 0)?;
+    ends_at(packet.bytes, end)
 }
 
 // The place behind the statement of a draft of one kind.
