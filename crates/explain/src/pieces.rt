@@ -127,7 +127,7 @@ impl fmt::Display for Nested {
     }
 }
 
-// A refusal, and what it means. Only judging answers that a view is wrong.
+// A refusal, and what it means.
 #[derive(Clone, Copy)]
 pub struct Meant(pub Refusal);
 
@@ -138,14 +138,24 @@ impl fmt::Display for Meant {
             Refusal::Limits => "outside the limits of a fleet or a tag",
             Refusal::Short => "a buffer is too short",
             Refusal::Layout { .. } => LAYOUT,
+            Refusal::OtherRound { .. } => "the round there is another",
+            // Of what is shown here, only judging refuses a view.
             Refusal::WrongView { .. } => "the view is 0",
+            Refusal::WrongSite { .. } => "the site there may not say that",
             Refusal::IllegalFix { .. } => "the fix there is not legal",
+            Refusal::BadTag { .. } => "the tag there is not vouched for",
+            Refusal::Repeated => "heard already",
+            Refusal::Equivocation => "another fix was heard from that site in this view",
+            Refusal::Gathered => "enough new-views are gathered",
             Refusal::BadCertificate { cause, depth, .. } => {
                 return write!(f, "{refusal}: {} ({})", Caused(cause), Nested(depth));
             }
+            Refusal::MayNotPropose => "not the leader, or proposed already, or too few new-views",
             Refusal::Conflict => {
                 "two fixes are certified in the highest view that has a commit certificate"
             }
+            Refusal::NotForced => "the certificate forces another fix",
+            Refusal::NotHigher => "the view is not higher",
         };
         write!(f, "{refusal}: {meaning}")
     }
