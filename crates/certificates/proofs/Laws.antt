@@ -26,7 +26,7 @@ use Rattle.certificates.specs.Laws.{AskedDecides, VotesAreCounted, EntriesAreCou
 -- ---- what was asked decides ----
 
 module _ (v w : Vouched) where
-  abbrev Alike : List Question → Type 0
+  abbrev pub Alike : List Question → Type 0
   Alike qs = Each (λ q. granted v q ≡ granted w q) qs
 
   answer_alike : {F : Type 0} (q : Question) (e : F) (xs : List (Step F)) (a b : Bool) → a ≡ b → Alike (cond a (asked v xs) []) → (Alike (asked v xs) → (passed v xs ≡ passed w xs) × (asked v xs ≡ asked w xs))
@@ -36,7 +36,7 @@ module _ (v w : Vouched) where
   answer_alike q e xs true false k h ih = absurd (true≢false k)
   answer_alike q e xs false true k h ih = absurd (false≢true k)
 
-  steps_alike : {F : Type 0} (xs : List (Step F)) → Alike (asked v xs) → (passed v xs ≡ passed w xs) × (asked v xs ≡ asked w xs)
+  pub steps_alike : {F : Type 0} (xs : List (Step F)) → Alike (asked v xs) → (passed v xs ≡ passed w xs) × (asked v xs ≡ asked w xs)
   steps_alike [] h = (refl, refl)
   steps_alike (test true e ∷ xs) h = steps_alike xs h
   steps_alike (test false e ∷ xs) h = (refl, refl)
@@ -87,7 +87,7 @@ module _ (v : Vouched) (f t round view : ℕ) where
   abbrev GoodEntry : Turn → Type 0
   GoodEntry m = (m.head.site < sites f t) × (granted v (record { site = m.head.site; said = NewView (change_of m); tag = m.tag }) ≡ true)
 
-  change_good : (known : Bool) (place : ℕ) (c : ViewChange) (tag : List ℕ) → passed v (change_steps round view known place c tag) ≡ Ok (tt {0})
+  pub change_good : (known : Bool) (place : ℕ) (c : ViewChange) (tag : List ℕ) → passed v (change_steps round view known place c tag) ≡ Ok (tt {0})
       → (known ≡ true) × (granted v (record { site = c.head.site; said = NewView c; tag = tag }) ≡ true)
   change_good known place c tag h =
       let second = place + 16 + length (report_bytes c.prepared) in

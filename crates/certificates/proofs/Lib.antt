@@ -10,3 +10,4 @@ pub mod Laws
 pub mod Meaning
 pub mod Runs
 pub mod Witness
+pub mod Moved

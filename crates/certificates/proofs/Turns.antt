@@ -47,7 +47,7 @@ certificate_ends limit b at p h =
     let q = bind_ok (count_at b at) _ p h in
     omega (arith, votes_end limit b q.0 (at + 4) p q.2)
 
-certified_ends : (limit : ℕ) (b : List ℕ) (o : Option Report) (at : ℕ) (p : Option Certified × ℕ) → certified_at limit b o at ≡ Ok p → (p.1 ≡ at + length (certified_bytes p.0)) × (reported p.0 ≡ o)
+pub certified_ends : (limit : ℕ) (b : List ℕ) (o : Option Report) (at : ℕ) (p : Option Certified × ℕ) → certified_at limit b o at ≡ Ok p → (p.1 ≡ at + length (certified_bytes p.0)) × (reported p.0 ≡ o)
 certified_ends limit b None at p h = rw (sym (ok_same h)) (omega arith, refl)
 certified_ends limit b (Some r) at p h =
     let q = bind_ok (votes_at limit b at) _ p h in
@@ -143,7 +143,7 @@ parts_by : (limit : ℕ) (b : List ℕ) (at : ℕ) (p : Turn × ℕ) (r : Result
 parts_by limit b at p (Ok q) h k = (q, refl)
 parts_by limit b at p (Err e) h k = absurd (turn_reads limit b at p e h k)
 
-read_parts : (limit : ℕ) (b : List ℕ) (at : ℕ) (p : Turn × ℕ) → turn_at limit b at ≡ Ok p → (q : Pieces ViewChange × ℕ) × (parts limit b at ≡ Ok q)
+pub read_parts : (limit : ℕ) (b : List ℕ) (at : ℕ) (p : Turn × ℕ) → turn_at limit b at ≡ Ok p → (q : Pieces ViewChange × ℕ) × (parts limit b at ≡ Ok q)
 read_parts limit b at p h = parts_by limit b at p (parts limit b at) h refl
 
 -- ---- the steps of an entry ----

@@ -13,13 +13,13 @@ use Rattle.certificates.specs.Steps.{Step, test, passed, answering}
 use Rattle.certificates.specs.Reading.{read_of}
 use Rattle.certificates.specs.Judging.{outcome, verdict_call, judge_call, judging}
 
-err_of : {A : Type 0} (r : Result A Malformed) (e : Malformed) → Err e ≡ map_ok (λ (x : A). tt {0}) r → r ≡ Err e
+pub err_of : {A : Type 0} (r : Result A Malformed) (e : Malformed) → Err e ≡ map_ok (λ (x : A). tt {0}) r → r ≡ Err e
 err_of (Ok x) e h = absurd (let z : ◌≡◌ {A = ℕ} 0 1 = cc in omega arith)
 err_of (Err f) e h = cc
 
-ok_of' : {A : Type 0} (r : Result A Malformed) → ◌≡◌ {A = Result (Unit {0}) Malformed} (Ok (tt {0})) (map_ok (λ (x : A). tt {0}) r) → (x : A) × (r ≡ Ok x)
-ok_of' (Ok x) h = (x, refl)
-ok_of' (Err f) h = absurd (let z : ◌≡◌ {A = ℕ} 0 1 = cc in omega arith)
+pub good_of : {A : Type 0} (r : Result A Malformed) → ◌≡◌ {A = Result (Unit {0}) Malformed} (Ok (tt {0})) (map_ok (λ (x : A). tt {0}) r) → (x : A) × (r ≡ Ok x)
+good_of (Ok x) h = (x, refl)
+good_of (Err f) h = absurd (let z : ◌≡◌ {A = ℕ} 0 1 = cc in omega arith)
 
 -- what is read whole is read at the start
 at_start : (limit : ℕ) (b : List ℕ) (ms : List Turn) → progress_of limit b ≡ Ok ms → IsOk (progress_at limit b 0) × (read_of (progress_at limit b 0) ≡ ms)
@@ -40,13 +40,13 @@ module _ (v : Vouched) (f t limit round view : ℕ) (b : List ℕ) where
   read_fails e h = rw (err_of (progress_of limit b) e h)
 
   pub read_good : ◌≡◌ {A = Result (Unit {0}) Malformed} (Ok (tt {0})) (map_ok (λ (ms : List Turn). tt {0}) (progress_of limit b)) → IsOk (progress_at limit b 0)
-  read_good h = let k = ok_of' (progress_of limit b) h in (at_start limit b k.0 k.1).0
+  read_good h = let k = good_of (progress_of limit b) h in (at_start limit b k.0 k.1).0
 
   -- it is good
   pub read_whole : ◌≡◌ {A = Result (Unit {0}) Malformed} (Ok (tt {0})) (map_ok (λ (ms : List Turn). tt {0}) (progress_of limit b))
       → judging v f t limit round view b ≡ cond (nat_le 1 view) (outcome v (verdict_call f t round view 0 (read_of (progress_at limit b 0)))) (Err (wrong_view 0))
   unfolding judge_call
   read_whole h =
-      let k = ok_of' (progress_of limit b) h in
+      let k = good_of (progress_of limit b) h in
       let s = at_start limit b k.0 k.1 in
       rw (k.1, s.1) (view_first v (nat_le 1 view) (verdict_call f t round view 0 k.0).steps (verdict_call f t round view 0 k.0).answer)

@@ -2,8 +2,9 @@
 use Rattle.std.specs.Prelude.{ℕ, ◌+◌, Bool, cond, ◌&&◌, List, [], ◌∷◌, ◌++◌, length, Some, None, Option, ◌==◌, nat_le, nat_lt}
 use Rattle.values.specs.declared.fix.Report.{Report}
 use Rattle.values.specs.Fleets.{sites, recovery_quorum, progress_quorum}
-use Rattle.values.specs.Fixes.{fix_of, legal}
+use Rattle.values.specs.Fixes.{legal_value}
 use Rattle.values.specs.Refusals.{Refused}
+use Rattle.wire.specs.declared.statement.Claim.{Claim}
 use Rattle.wire.specs.declared.statement.ViewChange.{ViewChange}
 use Rattle.wire.specs.declared.statement.Statement.{Statement}
 use Rattle.wire.specs.declared.statement.Statement.TheVariants.{Prepare, NewView}
@@ -47,6 +48,19 @@ module _ (f t round : ℕ) where
   certified_steps place None = []
   certified_steps place (Some c) = certificate_steps c.report place c.votes
 
+-- ---- claims ----
+
+-- a claim that begins a packet, with its tag, in a round and a view; said is the statement that it makes, and known says
+-- whether its site may be who it is
+abbrev pub claim_steps : ℕ → ℕ → Bool → Claim → Statement → List ℕ → List (Step Faulted)
+claim_steps round view known c said tag =
+    test (c.head.round == round) (other_round 4)
+    ∷ test (c.head.view == view) (other_view 8)
+    ∷ test known (other_site 12)
+    ∷ test (legal_value c.value) (illegal_fix 16)
+    ∷ ask (record { site = c.head.site; said = said; tag = tag }) (bad_tag 28)
+    ∷ []
+
 -- ---- new-views ----
 
 -- the view of a report at a place: at least 1, and below the view that the new-view is for
@@ -56,7 +70,7 @@ report_view view place (Some r) = test (nat_le 1 r.view && nat_lt r.view view) (
 
 abbrev pub report_fix : ℕ → Option Report → List (Step Faulted)
 report_fix place None = []
-report_fix place (Some r) = test (legal (fix_of r.value)) (illegal_fix (place + 8)) ∷ []
+report_fix place (Some r) = test (legal_value r.value) (illegal_fix (place + 8)) ∷ []
 
 -- a new-view's statement and tag at a place, in a round, for a view; known says whether its site may be who it is
 abbrev pub change_steps : ℕ → ℕ → Bool → ℕ → ViewChange → List ℕ → List (Step Faulted)

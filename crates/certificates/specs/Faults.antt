@@ -1,5 +1,5 @@
 -- What is wrong in a certificate: the number of the cause, and the place.
-use Rattle.std.specs.Prelude.{ℕ, Ok, Err, Result}
+use Rattle.std.specs.Prelude.{ℕ, ◌+◌, [], ◌∷◌, Ok, Err, Result}
 use Rattle.values.specs.Refusals.{cause_number, Refused, layout, bad_certificate}
 use Rattle.certificates.specs.declared.fault.Fault.{Fault}
 use Rattle.certificates.specs.declared.fault.CommitFault.{CommitFault}
@@ -33,6 +33,10 @@ bad_tag place = record { cause = 6; place = place }
 -- as a refusal: depth 1, or 2 in a certificate inside another
 abbrev pub at_depth : ℕ → Faulted → Refused
 at_depth depth e = bad_certificate e.place e.cause depth
+
+-- of a message that is heard, causes 2 to 6 have the numbers 4 to 8
+abbrev pub in_message : Faulted → Refused
+in_message e = record { number = e.cause + 2; values = e.place ∷ [] }
 
 abbrev pub fault_told : Fault → Faulted
 fault_told e = record { cause = cause_number e.cause; place = e.place }

@@ -8,7 +8,7 @@ ghost use Rattle.wire.specs.Contents.{report_bytes, change_of, statement_bytes};
 ghost use Rattle.checks.specs.Vouching.{Vouched};
 ghost use Rattle.certificates.specs.Steps.{granted, passed, blamed, answering};
 ghost use Rattle.certificates.specs.Faults.{fault_told, at_depth, commit_told, entry_told, failing};
-ghost use Rattle.certificates.specs.Examining.{rising, vote_steps, report_view, report_fix, change_steps, certificate_steps, certified_steps, entry_steps, entries_needed, progress_steps};
+ghost use Rattle.certificates.specs.Examining.{rising, vote_steps, claim_steps, report_view, report_fix, change_steps, certificate_steps, certified_steps, entry_steps, entries_needed, progress_steps};
 ghost use Rattle.certificates.specs.Reading.{lends, VotesStand, votes_in, CertifiedStands, certified_in, turn_in, ProgressStands, progress_in};
 ghost use Rattle.certificates.specs.Judging.{reports_of, outcome, verdict_call, judging};
 
@@ -16,7 +16,7 @@ use super::fault::{CommitFault, EntryFault, Fault};
 use buffers::Piece;
 use checks::Check;
 use messages::{NewView, envelope_at, read_progress};
-use values::{Cause, Fix, Fleet, Refusal, Report, Value};
+use values::{Cause, Fleet, Refusal, Report, Value};
 use verdicts::{Forcing, Reported, weigh};
 use wire::{Claim, Entry, Head, Packet, Part, Statement, ViewChange, count_at, report_length};
 
@@ -57,7 +57,18 @@ fn report_fix(report: Option<Report>, place: usize) -> Result<(), Fault>
 {
     match report {
         None => Ok(()),
-        Some(report) => ensure(Fix::from(report.value).is_legal(), Cause::Fix, place + 8),
+        Some(report) => ensure(report.value.is_legal(), Cause::Fix, place + 8),
+    }
+}
+
+// How many entries a progress certificate for `view` has: none in view 1.
+pub fn entries_needed(fleet: Fleet, view: u32) -> u32
+    ensures { result ≡ entries_needed fleet.f fleet.t view }
+{
+    if view == 1 {
+        0
+    } else {
+        fleet.progress_quorum()
     }
 }
 
@@ -99,10 +110,30 @@ impl<C: Check> Examiner<'_, C> {
         ensure(self.grants(site, prepare, tag.bytes), Cause::Tag, tag.place)
     }
 
+    // A claim at the start of the packet, and its tag: of the round, in the view, of a legal fix.
+    // `said` is the statement that it makes; `known` says whether its site may be who it is.
+    pub fn claim(
+        &self,
+        claim: Claim,
+        said: Statement,
+        tag: &[u8],
+        view: u32,
+        known: bool,
+    ) -> Result<(), Fault>
+        ensures value { failing fault_told result ≡ passed (C.Check.vouched self.now.check.now) (claim_steps self.now.round view known claim said tag.now) }
+        ensures site { OnOk result (known ≡ true) }
+    {
+        ensure(claim.head.round == self.round, Cause::Round, 4)?;
+        ensure(claim.head.view == view, Cause::View, 8)?;
+        ensure(known, Cause::Site, 12)?;
+        ensure(claim.value.is_legal(), Cause::Fix, 16)?;
+        ensure(self.grants(claim.head.site, said, tag), Cause::Tag, 28)
+    }
+
     // A new-view's statement and its tag: of the round, for the view, with reports of legal fixes
     // in views below. `known` says whether its site may be who it is.
     #[tactic(auto, using(crate::proofs::Passing::passed_append))]
-    fn change(
+    pub fn change(
         &self,
         said: ViewChange,
         tag: Part<'_>,
@@ -128,7 +159,7 @@ impl<C: Check> Examiner<'_, C> {
     }
 
     // The commit certificate of a report, at a place.
-    fn commit_certificate(&self, at: usize, report: Report) -> Result<(), CommitFault>
+    pub fn commit_certificate(&self, at: usize, report: Report) -> Result<(), CommitFault>
         requires { VotesStand self.now.packet at }
         ensures { (depth : ℕ) → failing (commit_told depth) result ≡ passed (C.Check.vouched self.now.check.now) (blamed (at_depth depth) (certificate_steps self.now.fleet.f self.now.fleet.t self.now.round report at (votes_in self.now.packet at))) }
     {
@@ -146,7 +177,7 @@ impl<C: Check> Examiner<'_, C> {
     }
 
     // The commit certificate of a reported commit, at a place.
-    fn certified(&self, at: usize, committed: Option<Report>) -> Result<(), CommitFault>
+    pub fn certified(&self, at: usize, committed: Option<Report>) -> Result<(), CommitFault>
         requires { CertifiedStands self.now.packet committed at }
         ensures { (depth : ℕ) → failing (commit_told depth) result ≡ passed (C.Check.vouched self.now.check.now) (blamed (at_depth depth) (certified_steps self.now.fleet.f self.now.fleet.t self.now.round at (certified_in self.now.packet committed at))) }
     {
@@ -158,7 +189,7 @@ impl<C: Check> Examiner<'_, C> {
 
     // The entry of a progress certificate for `view` at a place: its site is not below `low`, and
     // its own commit certificate follows its tag. Answers what it says, and the place behind it.
-    fn entry(&self, at: usize, view: u32, low: u32) -> Result<(ViewChange, usize), EntryFault>
+    pub fn entry(&self, at: usize, view: u32, low: u32) -> Result<(ViewChange, usize), EntryFault>
         requires { IsOk (turn_in self.now.packet at) }
         ensures value { IfOk (turn_in self.now.packet at) (λ p. failing entry_told result ≡ answering (passed (C.Check.vouched self.now.check.now) (entry_steps self.now.fleet.f self.now.fleet.t self.now.round view low at p.0)) (change_of p.0, p.1)) }
         ensures site { IfOk result (λ p. p.0.head.site < sites self.now.fleet.f self.now.fleet.t) }
@@ -171,17 +202,6 @@ impl<C: Check> Examiner<'_, C> {
         Ok((said, end))
     }
 
-    // How many entries a progress certificate for `view` has.
-    fn entries_needed(&self, view: u32) -> u32
-        ensures { result ≡ entries_needed self.now.fleet.f self.now.fleet.t view }
-    {
-        if view == 1 {
-            0
-        } else {
-            self.fleet.progress_quorum()
-        }
-    }
-
     // The progress certificate for `view` at a place: lays what its entries report into
     // `reports`, and answers how many they are.
     fn progress(&self, at: usize, view: u32, reports: &mut [Reported]) -> Result<usize, EntryFault>
@@ -191,7 +211,7 @@ impl<C: Check> Examiner<'_, C> {
         ensures few { IfOk result (λ n. n ≤ 16) }
     {
         let count = count_at(self.packet.bytes, at)?;
-        ensure(count == self.entries_needed(view), Cause::Count, at)?;
+        ensure(count == entries_needed(self.fleet, view), Cause::Count, at)?;
         let mut low = 0;
         let mut next = at + 4;
         for i in 0..count as usize {
@@ -208,7 +228,7 @@ impl<C: Check> Examiner<'_, C> {
 
     // The value that a progress certificate for `view` at a place forces, with its view and the
     // certificate that forces it.
-    fn verdict(&self, at: usize, view: u32) -> Result<Option<(Value, u32, Forcing)>, Refusal>
+    pub fn verdict(&self, at: usize, view: u32) -> Result<Option<(Value, u32, Forcing)>, Refusal>
         requires { ProgressStands self.now.packet at }
         ensures { answered forced_told result ≡ outcome (C.Check.vouched self.now.check.now) (verdict_call self.now.fleet.f self.now.fleet.t self.now.round view at (progress_in self.now.packet at)) }
     {

@@ -1,7 +1,7 @@
 // What is wrong in a certificate, handed up from the inner certificate to the caller.
 ghost use Rattle.std.specs.Prelude.{◌≡◌, ℕ};
 ghost use Rattle.values.specs.Refusals.{layout, refused_as};
-ghost use Rattle.certificates.specs.Faults.{at_depth, fault_told, commit_told, entry_told};
+ghost use Rattle.certificates.specs.Faults.{at_depth, in_message, fault_told, commit_told, entry_told};
 
 use values::{Cause, Refusal};
 use wire::Malformed;
@@ -69,6 +69,21 @@ impl From<CommitFault> for EntryFault {
 }
 
 impl Fault {
+    // As the refusal of a message that is heard: a count is of certificates alone.
+    pub fn in_message(self) -> Refusal
+        ensures { refused_as result ≡ in_message (fault_told self) }
+    {
+        let place = self.place;
+        match self.cause {
+            Cause::Count => Refusal::Layout { place },
+            Cause::Round => Refusal::OtherRound { place },
+            Cause::View => Refusal::WrongView { place },
+            Cause::Site => Refusal::WrongSite { place },
+            Cause::Fix => Refusal::IllegalFix { place },
+            Cause::Tag => Refusal::BadTag { place },
+        }
+    }
+
     // As a refusal, at a depth.
     fn at_depth(self, depth: u32) -> Refusal
         ensures { refused_as result ≡ at_depth depth (fault_told self) }
@@ -89,6 +104,15 @@ impl CommitFault {
             CommitFault::Malformed(fault) => fault.into(),
             CommitFault::Fault(fault) => fault.at_depth(depth),
         }
+    }
+}
+
+// The certificate that a message attaches is at depth 1.
+impl From<CommitFault> for Refusal {
+    ghost from_gives = { λ fault r. refused_as r ≡ commit_told 1 fault };
+
+    fn from(fault: CommitFault) -> Refusal {
+        fault.at_depth(1)
     }
 }
 

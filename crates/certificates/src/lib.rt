@@ -5,4 +5,6 @@ mod examiner;
 mod fault;
 mod judging;
 
+pub use examiner::{Examiner, entries_needed};
+pub use fault::{CommitFault, EntryFault, Fault};
 pub use judging::judge;
