@@ -1,0 +1,4 @@
+pub mod Sizes
+pub mod Rows
+pub mod Books
+pub mod Kept
