@@ -1,0 +1,25 @@
+// What the calls of a site test and ask, on examples worked out by hand.
+#![tactic(auto)]
+
+#[cfg(test)]
+mod admits;
+#[cfg(test)]
+mod asked;
+#[cfg(test)]
+mod base;
+#[cfg(test)]
+mod bytes;
+#[cfg(test)]
+mod claims;
+#[cfg(test)]
+mod hears;
+#[cfg(test)]
+mod leaves;
+#[cfg(test)]
+mod new_views;
+#[cfg(test)]
+mod proposes;
+#[cfg(test)]
+mod shown;
+#[cfg(test)]
+mod signs;
