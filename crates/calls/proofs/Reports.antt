@@ -14,10 +14,11 @@ use Rattle.wire.specs.Contents.{report_bytes, statement_bytes, reported, Turn, t
 use Rattle.checks.specs.Vouching.{Vouched}
 use Rattle.agreement.specs.Statements.{Each, Of}
 use Rattle.certificates.specs.Steps.{granted, Step, test, ask, passed, blamed}
-use Rattle.certificates.specs.Faults.{Faulted, other_round, other_view, other_site, illegal_fix, bad_tag, at_depth}
+use Rattle.certificates.specs.Faults.{Faulted, other_view, other_site, illegal_fix, bad_tag, at_depth}
 use Rattle.certificates.specs.Examining.{rising, report_view, report_fix, change_steps, certified_steps, behind_tag, entry_steps, entries_steps}
 use Rattle.certificates.specs.Judging.{reports_of}
 use Rattle.certificates.proofs.Passing.{test_ok, append_ok, blamed_ok}
+use Rattle.certificates.proofs.Laws.{change_through}
 use Rattle.calls.specs.Effects.{choice}
 use Rattle.calls.proofs.Passed.{append_made}
 use Rattle.calls.specs.Laws.{LegalReport}
@@ -43,22 +44,14 @@ module _ (v : Vouched) where
 
   pub change_ok : (round view : ℕ) (known : Bool) (place : ℕ) (c : ViewChange) (tag : List ℕ) → passed v (change_steps round view known place c tag) ≡ Ok (tt {0}) → Changed round view known c tag
   change_ok round view known place c tag h =
-      let second = place + 16 + length (report_bytes c.prepared) in
-      let a = test_ok (c.head.round == round) _ (other_round (place + 4)) h in
-      let b = test_ok (c.head.view == view) _ (other_view (place + 8)) a.1 in
-      let d = append_ok v (report_view view (place + 16) c.prepared) _ b.1 in
-      let e = append_ok v (report_view view second c.committed) _ d.1 in
-      let k = test_ok known _ (other_site (place + 12)) e.1 in
-      let m = append_ok v (report_fix (place + 16) c.prepared) _ k.1 in
-      let n = append_ok v (report_fix second c.committed) _ m.1 in
-      let g = test_ok (granted v (record { site = c.head.site; said = NewView c; tag = tag })) _ (bad_tag (place + length (statement_bytes (NewView c)))) n.1 in
+      let g = change_through v round view known place c tag h in
       record {
-        round_is = eqb-true c.head.round round a.0;
-        view_is = eqb-true c.head.view view b.0;
-        is_known = k.0;
-        prepared = legal_report view (place + 16) (place + 16) c.prepared d.0 m.0;
-        committed = legal_report view second second c.committed e.0 n.0;
-        is_vouched = g.0;
+        round_is = eqb-true c.head.round round g.same_round;
+        view_is = eqb-true c.head.view view g.same_view;
+        is_known = g.is_known;
+        prepared = legal_report view (place + 16) (place + 16) c.prepared g.prepared_view g.prepared_fix;
+        committed = legal_report view _ _ c.committed g.committed_view g.committed_fix;
+        is_vouched = g.is_vouched;
       }
 
   view_made : (view place : ℕ) (o : Option Report) → LegalReport view o → passed v (report_view view place o) ≡ Ok (tt {0})

@@ -1,11 +1,9 @@
 -- The gathered new-views, read one by one where they lie.
 use Rattle.std.proofs.Common.{◌≡◌, ℕ, suc, ◌+◌, ◌*◌, ◌^◌, ◌<◌, ◌≤◌, true, false, cond, eqb, List, [], ◌∷◌, length, set, length-set, Ok, Err, Result, sym, refl, ap, ◌∙◌, arith, ◌≢◌}
-use Rattle.std.proofs.lemmas.Nat.{mul-le}
 use Rattle.std.proofs.lemmas.Option.{IfSome_then}
 use Rattle.std.specs.Option.{IfSome}
 use Rattle.std.proofs.lemmas.Bool.{false≢true, eq-eqb, ne_eqb}
 use Rattle.std.specs.Result.{IsOk, IfOk}
-use Rattle.values.specs.Fleets.{sites, recovery_quorum}
 use Rattle.wire.specs.declared.words.Malformed.{Malformed}
 use Rattle.wire.specs.Words.{bind}
 use Rattle.wire.specs.declared.statement.ViewChange.{ViewChange}
@@ -22,23 +20,11 @@ use Rattle.certificates.specs.Judging.{reports_of}
 use Rattle.certificates.proofs.Passing.{next, passed_append, passed_blamed, answered_ok, answered_err}
 use Rattle.certificates.proofs.Turns.{turn_ends}
 use Rattle.certificates.proofs.Moved.{entry_moves, entry_place}
-use Rattle.records.specs.Sizes.{view_row}
 use Rattle.records.specs.Kept.{Membership, Kept}
 use Rattle.calls.specs.Hearing.{turns_of}
 use Rattle.calls.specs.Gathering.{members, placed, turn_of, is_gathered, gathered, gathered_turn, turns_read}
 
 -- ---- sizes ----
-
-pub view_row_small : (f t limit : ℕ) → sites f t ≤ 16 → limit ≤ 2048 → view_row f t limit ≤ 40000
-view_row_small f t limit a b =
-    let e = mul-le (recovery_quorum f t) (limit + 8) 16 2056 (omega (arith, a)) (omega (arith, b)) in
-    omega (arith, e, b)
-
--- a row of a book that is long enough lies in it
-pub row_inside : (site n size len : ℕ) → site < n → n * size ≤ len → (site + 1) * size ≤ len
-row_inside site n size len a b =
-    let e = mul-le (site + 1) size n size (omega (arith, a)) (omega arith) in
-    omega (arith, e, b)
 
 -- the place behind a row
 pub place_on : (place site size len : ℕ) → place ≤ 4 + site * size → len ≤ size → place + len ≤ 4 + (site + 1) * size
@@ -46,11 +32,6 @@ place_on place site size len a b = omega (arith, a, b)
 
 pub place_stays : (place site size : ℕ) → place ≤ 4 + site * size → place ≤ 4 + (site + 1) * size
 place_stays place site size a = omega (arith, a)
-
-pub place_small : (place site size : ℕ) → place ≤ 4 + site * size → site ≤ 16 → size ≤ 40000 → place ≤ 640004
-place_small place site size a b c =
-    let e = mul-le site size 16 40000 b c in
-    omega (arith, a, e)
 
 pub set_long : {A : Type 0} (xs : List A) (i : ℕ) (x : A) → 16 ≤ length xs → 16 ≤ length (set xs i x)
 set_long xs i x h = omega (arith, length-set xs i x, h)
@@ -85,24 +66,12 @@ module _ (m : Membership) (k : Kept) (views : List ℕ) where
   layout_next (Ok x) (Err e) h = refl
   layout_next (Err e) s h = absurd (let z : ◌≡◌ {A = ℕ} 0 1 = cc in omega arith)
 
-  layout_stops : (r : Result Turn Malformed) (s : Result (List Turn) Malformed) (e : Malformed) → ◌≡◌ {A = Result (Unit {0}) Malformed} (Err e) (map_ok (λ (x : Turn). tt {0}) r)
-      → ◌≡◌ {A = Result (Unit {0}) Malformed} (map_ok (λ (xs : List Turn). tt {0}) (both r s)) (Err e)
-  layout_stops (Ok x) s e h = absurd (let z : ◌≡◌ {A = ℕ} 0 1 = cc in omega arith)
-  layout_stops (Err f) s e h = sym h
-
   pub row_read : (place n p site : ℕ) → n ≡ suc p → is_gathered m k site ≡ true
       → ◌≡◌ {A = Result (Unit {0}) Malformed} (Ok (tt {0})) (map_ok (λ (x : Turn). tt {0}) (placed place (turn_of m.limit (row site))))
       → ◌≡◌ {A = Result (Unit {0}) Malformed} (map_ok (λ (xs : List Turn). tt {0}) (rest place n site)) (map_ok (λ (xs : List Turn). tt {0}) (rest (place + length (row site)) p (site + 1)))
   row_read place n p site e h r =
       ap (map_ok (λ (xs : List Turn). tt {0})) (taken place n p site e h)
       ∙ layout_next (placed place (turn_of m.limit (row site))) (rest (place + length (row site)) p (site + 1)) r
-
-  pub row_unread : (place n p site : ℕ) (f : Malformed) → n ≡ suc p → is_gathered m k site ≡ true
-      → ◌≡◌ {A = Result (Unit {0}) Malformed} (Err f) (map_ok (λ (x : Turn). tt {0}) (placed place (turn_of m.limit (row site))))
-      → ◌≡◌ {A = Result (Unit {0}) Malformed} (map_ok (λ (xs : List Turn). tt {0}) (rest place n site)) (Err f)
-  row_unread place n p site f e h r =
-      ap (map_ok (λ (xs : List Turn). tt {0})) (taken place n p site e h)
-      ∙ layout_stops (placed place (turn_of m.limit (row site))) (rest (place + length (row site)) p (site + 1)) f r
 
 -- ---- a row as an entry of the certificate ----
 

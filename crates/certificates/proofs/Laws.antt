@@ -83,13 +83,20 @@ votes_are_counted v f t round q r place xs h k =
     let g = votes_rise v f t round r 0 place xs k in
     (as_many (λ (x : Vote). x.site) (sites f t) q xs h g.0, g.1)
 
-module _ (v : Vouched) (f t round view : ℕ) where
-  abbrev GoodEntry : Turn → Type 0
-  GoodEntry m = (m.head.site < sites f t) × (granted v (record { site = m.head.site; said = NewView (change_of m); tag = m.tag }) ≡ true)
+module _ (v : Vouched) (round view : ℕ) where
+  -- what a new-view that passed went through
+  pub record Through (known : Bool) (place : ℕ) (c : ViewChange) (tag : List ℕ) : Type 0 where
+    pub same_round : (c.head.round == round) ≡ true
+    pub same_view : (c.head.view == view) ≡ true
+    pub is_known : known ≡ true
+    pub prepared_view : passed v (report_view view (place + 16) c.prepared) ≡ Ok (tt {0})
+    pub committed_view : passed v (report_view view (place + 16 + length (report_bytes c.prepared)) c.committed) ≡ Ok (tt {0})
+    pub prepared_fix : passed v (report_fix (place + 16) c.prepared) ≡ Ok (tt {0})
+    pub committed_fix : passed v (report_fix (place + 16 + length (report_bytes c.prepared)) c.committed) ≡ Ok (tt {0})
+    pub is_vouched : granted v (record { site = c.head.site; said = NewView c; tag = tag }) ≡ true
 
-  pub change_good : (known : Bool) (place : ℕ) (c : ViewChange) (tag : List ℕ) → passed v (change_steps round view known place c tag) ≡ Ok (tt {0})
-      → (known ≡ true) × (granted v (record { site = c.head.site; said = NewView c; tag = tag }) ≡ true)
-  change_good known place c tag h =
+  pub change_through : (known : Bool) (place : ℕ) (c : ViewChange) (tag : List ℕ) → passed v (change_steps round view known place c tag) ≡ Ok (tt {0}) → Through known place c tag
+  change_through known place c tag h =
       let second = place + 16 + length (report_bytes c.prepared) in
       let a = test_ok (c.head.round == round) _ (other_round (place + 4)) h in
       let b = test_ok (c.head.view == view) _ (other_view (place + 8)) a.1 in
@@ -99,7 +106,20 @@ module _ (v : Vouched) (f t round view : ℕ) where
       let m = append_ok v (report_fix (place + 16) c.prepared) _ k.1 in
       let n = append_ok v (report_fix second c.committed) _ m.1 in
       let g = test_ok (granted v (record { site = c.head.site; said = NewView c; tag = tag })) _ (bad_tag (place + length (statement_bytes (NewView c)))) n.1 in
-      (k.0, g.0)
+      record {
+        same_round = a.0;
+        same_view = b.0;
+        is_known = k.0;
+        prepared_view = d.0;
+        committed_view = e.0;
+        prepared_fix = m.0;
+        committed_fix = n.0;
+        is_vouched = g.0;
+      }
+
+module _ (v : Vouched) (f t round view : ℕ) where
+  abbrev GoodEntry : Turn → Type 0
+  GoodEntry m = (m.head.site < sites f t) × (granted v (record { site = m.head.site; said = NewView (change_of m); tag = m.tag }) ≡ true)
 
   entries_rise : (low place : ℕ) (ms : List Turn) → passed v (entries_steps f t round view low place ms) ≡ Ok (tt {0})
       → Ascending (λ (i : ℕ). i) low (sites f t) (map (λ (m : Turn). m.head.site) ms) × Each GoodEntry ms
@@ -107,10 +127,10 @@ module _ (v : Vouched) (f t round view : ℕ) where
   entries_rise low place (m ∷ ms) h =
       let p = append_ok v (entry_steps f t round view low place m) (entries_steps f t round view (m.head.site + 1) (place + length (turn_bytes m)) ms) h in
       let e = append_ok v (blamed (at_depth 1) (change_steps round view (rising (sites f t) low m.head.site) place (change_of m) m.tag)) (blamed (at_depth 2) (certified_steps f t round (behind_tag place m) m.committed)) p.0 in
-      let g = change_good (rising (sites f t) low m.head.site) place (change_of m) m.tag (blamed_ok (at_depth 1) v (change_steps round view (rising (sites f t) low m.head.site) place (change_of m) m.tag) e.0) in
-      let s = rises (sites f t) low m.head.site g.0 in
+      let g = change_through v round view (rising (sites f t) low m.head.site) place (change_of m) m.tag (blamed_ok (at_depth 1) v (change_steps round view (rising (sites f t) low m.head.site) place (change_of m) m.tag) e.0) in
+      let s = rises (sites f t) low m.head.site g.is_known in
       let rest = entries_rise (m.head.site + 1) (place + length (turn_bytes m)) ms p.1 in
-      ((s.0, s.1, rising_more m.head.site (sites f t) (map (λ (y : Turn). y.head.site) ms) rest.0), ((s.1, g.1), rest.1))
+      ((s.0, s.1, rising_more m.head.site (sites f t) (map (λ (y : Turn). y.head.site) ms) rest.0), ((s.1, g.is_vouched), rest.1))
 
 pub entries_are_counted : EntriesAreCounted
 entries_are_counted v f t round view q place ms h k =

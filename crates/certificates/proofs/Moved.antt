@@ -1,6 +1,5 @@
 -- Steps from another place on: the same, with their places moved. And the places of an entry's faults are not past its bytes.
 use Rattle.std.proofs.Common.{◌≡◌, ℕ, ◌+◌, ◌≤◌, Bool, true, false, cond, List, [], ◌∷◌, ◌++◌, length, Some, None, Err, Option, Result, sym, refl, ap, ap₂, ◌∙◌, arith, length-append}
-use Rattle.std.proofs.lemmas.Option.{MatchOption-at_some}
 use Rattle.std.specs.Option.{IfSome}
 use Rattle.values.specs.declared.fix.Report.{Report}
 use Rattle.values.specs.Fleets.{sites}
@@ -180,7 +179,3 @@ pub entry_place : (v : Vouched) (f t round view low at : ℕ) (m : Turn) (e : Re
 entry_place v f t round view low at m e h =
     let end = at + length (turn_bytes m) in
     blames_passed (Ends end) v (entry_steps f t round view low at m) e (entry_ends end f t round view low at m (omega arith)) h
-
-pub entry_within : (v : Vouched) (f t round view low at : ℕ) (m : Turn) (e : Refused) → passed v (entry_steps f t round view low at m) ≡ Err e
-    → (x : ℕ) → first_of e.values ≡ Some x → x ≤ at + length (turn_bytes m)
-entry_within v f t round view low at m e h x k = MatchOption-at_some (Unit {0}) (λ (y : ℕ). y ≤ at + length (turn_bytes m)) x k (entry_place v f t round view low at m e h)

@@ -1,5 +1,5 @@
 -- A new-view as it is read, and the steps of an entry.
-use Rattle.std.proofs.Common.{◌≡◌, ℕ, zero, suc, ◌+◌, ◌≤◌, List, [], ◌++◌, length, Some, None, Ok, Err, Option, Result, eqb, sym, refl, ap, ◌∙◌, subst₂, arith, length-append}
+use Rattle.std.proofs.Common.{◌≡◌, ℕ, zero, suc, ◌+◌, ◌≤◌, List, ◌++◌, length, Some, None, Ok, Err, Option, Result, eqb, sym, refl, ap, ◌∙◌, subst₂, arith, length-append}
 use Rattle.std.proofs.lemmas.Bool.{false≢true}
 use Rattle.std.specs.Result.{IsOk}
 use Rattle.values.specs.declared.fix.Report.{Report}
@@ -18,8 +18,8 @@ use Rattle.messages.proofs.Located.{turn_behind}
 use Rattle.checks.specs.Vouching.{Vouched}
 use Rattle.certificates.specs.Steps.{passed, blamed}
 use Rattle.certificates.specs.Faults.{at_depth, failing}
-use Rattle.certificates.specs.Examining.{rising, certificate_steps, certified_steps, change_steps, behind_tag, entry_steps}
-use Rattle.certificates.specs.Reading.{read_of, optional_of}
+use Rattle.certificates.specs.Examining.{rising, certified_steps, change_steps, behind_tag, entry_steps}
+use Rattle.certificates.specs.Reading.{optional_of}
 use Rattle.certificates.proofs.Passing.{next, passed_append, passed_blamed}
 use Rattle.certificates.proofs.Votes.{vote_ends}
 
@@ -53,18 +53,6 @@ certified_ends limit b (Some r) at p h =
     let q = bind_ok (votes_at limit b at) _ p h in
     let e = certificate_ends limit b at q.0 q.1 in
     rw (sym (ok_same q.2)) (e, refl)
-
-module _ (limit : ℕ) (b : List ℕ) (f t round at : ℕ) where
-  pub certified_none : certified_steps f t round at (optional_of (certified_at limit b None at)) ≡ []
-  certified_none = refl
-
-  -- a reported commit's certificate can be read, and its steps are those of what was read
-  pub certified_some : (r : Report) → IsOk (certified_at limit b (Some r) at)
-      → IsOk (votes_at limit b at) × (certified_steps f t round at (optional_of (certified_at limit b (Some r) at)) ≡ certificate_steps f t round r at (read_of (votes_at limit b at)))
-  certified_some r h =
-      let k = ok_of (certified_at limit b (Some r) at) h in
-      let q = bind_ok (votes_at limit b at) _ k.0 k.1 in
-      (is_ok_by (votes_at limit b at) q.0 q.1, rw q.1)
 
 -- ---- a new-view ----
 
