@@ -294,10 +294,15 @@ module _ (f t : ℕ) (good : SiteSet) (Prepared Committed : ℕ → ℕ → Valu
   pub later_forces : Later f t good Prepared Committed Spoke
   later_forces v view d es k l p = later_step v view d es l (only_it v d k view) p k
 
+  -- in a view above a decision's, a rule-following site prepares its value, and no other is backed
+  pub prepared_above : (v w i : ℕ) (d e : Value) → Dec v d → v < w → good i ≡ true → Prepared i w e → e ≡ d
+  prepared_above v w i d e k l g p = only_it v d k (suc w) w i e l (omega arith) g p
+
+  pub backed_above : (v w : ℕ) (d e : Value) → Dec v d → v < w → Back w e → e ≡ d
+  backed_above v w d e k l b = let s = back_good w e b in prepared_above v w s.0 d e k l s.1 s.2
+
   above : (v w : ℕ) (d e : Value) → Dec v d → Dec w e → v < w → e ≡ d
-  above v w d e a b l =
-      let s = back_good w e (decision_backs w e b) in
-      only_it v d a (suc w) w s.0 e l (omega arith) s.1 s.2
+  above v w d e a b l = backed_above v w d e a l (decision_backs w e b)
 
   pub decisions_same : Agree f t good Prepared Committed Spoke
   decisions_same v w d e a b = elim (cases_order v w) [

@@ -12,7 +12,7 @@ use Rattle.agreement.specs.Moves.{Rows, fill, holds, holders, Site, opened, Move
 use Rattle.agreement.specs.Promises.{Valid, DecisionsAgree, LaterForced, NeverConflict}
 use Rattle.verdicts.proofs.Counts.{same_eq}
 use Rattle.agreement.proofs.Judged.{none_some, some_inj}
-use Rattle.agreement.proofs.Agree.{decisions_same, later_forces, none_conflicts}
+use Rattle.agreement.proofs.Agree.{decisions_same, later_forces, none_conflicts, decision_backs, decision_view, prepared_above, backed_above}
 use Rattle.agreement.proofs.Grow.{Within, when, split, old_kind, old_site, progress_more, progress_by, decided_more, rules_propose, rules_prepare, rules_commit, rules_new_view}
 
 holds_some : (d : Value) (o : Option Value) → holds d o ≡ true → o ≡ Some d
@@ -294,17 +294,18 @@ module _ (f t : ℕ) (good : SiteSet) where
         kept.last_commit
     rules_move rules other h = rules
 
-  pub draft_by : (i k : ℕ) (s : Site) (m : Move) → (k ≡ i → ⊥) → Of (λ y. who y ≡ k → ⊥) (draft f t i s m)
-  draft_by i k s (propose_it d) ne = λ q. ne (sym q)
-  draft_by i k s (hear_propose d es) ne = λ q. ne (sym q)
-  draft_by i k s (hear_prepare j d) ne = go (makes_commit f t s j d)
+  -- what holds of the site holds of the site whose number its drafts bear
+  pub draft_by : (P : ℕ → Type 0) (i : ℕ) (s : Site) (m : Move) → P i → Of (λ y. P (who y)) (draft f t i s m)
+  draft_by P i s (propose_it d) h = h
+  draft_by P i s (hear_propose d es) h = h
+  draft_by P i s (hear_prepare j d) h = go (makes_commit f t s j d)
     where
-      go : (b : Bool) → Of (λ y. who y ≡ k → ⊥) (cond b (Some (commit i s.view d)) None)
-      go true = λ q. ne (sym q)
+      go : (b : Bool) → Of (λ y. P (who y)) (cond b (Some (commit i s.view d)) None)
+      go true = h
       go false = tt
-  draft_by i k s (hear_commit j d) ne = tt
-  draft_by i k s (leave v) ne = λ q. ne (sym q)
-  draft_by i k s other ne = tt
+  draft_by P i s (hear_commit j d) h = tt
+  draft_by P i s (leave v) h = h
+  draft_by P i s other h = tt
 
   -- one move, whatever function gives the sites' records
   pub inv_move : (at at' : ℕ → Site) (log : List Said) (i : ℕ) (m : Move) → good i ≡ true → Tests f t (at i) m → Drafted good log (vouched f t (at i) m)
@@ -318,7 +319,7 @@ module _ (f t : ℕ) (good : SiteSet) where
           | inl q ↦ subst (λ (x : ℕ). Kept x (at' x) (more (draft f t i (at i) m) log)) (sym q)
               (subst (λ (x : Site). Kept i x (more (draft f t i (at i) m) log)) (sym new) (kept_move i (at i) log (inv.kept i g) m h))
           | inr ne ↦ subst (λ (x : Site). Kept j x (more (draft f t i (at i) m) log)) (sym (same j ne))
-              (kept_else j (at j) log (draft f t i (at i) m) (draft_by i j (at i) m ne) (inv.kept j gj))
+              (kept_else j (at j) log (draft f t i (at i) m) (draft_by (λ k. k ≡ j → ⊥) i (at i) m (λ q. ne (sym q))) (inv.kept j gj))
         ];
       }
 
@@ -339,6 +340,17 @@ module _ (f t : ℕ) (good : SiteSet) where
   pub log_grows : (w : World) (ms : List Moved) → Within w.log (after f t w ms).log
   log_grows w [] x h = h
   log_grows w (moves i m ∷ ms) x h = log_grows (next f t w i m) ms x (more_within (draft f t i (w.at i) m) w.log x h)
+
+  -- what is drafted is drafted by a rule-following site
+  more_good : (o : Option Said) (log : List Said) (x : Said) → Of (λ y. good (who y) ≡ true) o → (In x log → good (who x) ≡ true) → In x (more o log) → good (who x) ≡ true
+  more_good None log x h k a = k a
+  more_good (Some y) log x h k a = elim (split a) [ inl p ↦ ap (λ (z : Said). good (who z)) p ∙ h | inr q ↦ k q ]
+
+  log_good : (w : World) (ms : List Moved) → Run f t good w ms → (x : Said) → (In x w.log → good (who x) ≡ true) → In x (after f t w ms).log → good (who x) ≡ true
+  log_good w [] run x h a = h a
+  log_good w (moves i m ∷ ms) run x h a =
+      let own = draft_by (λ k. good k ≡ true) i (w.at i) m run.0 in
+      log_good (next f t w i m) ms run.3 x (more_good (draft f t i (w.at i) m) w.log x own h) a
 
   pub run_take : (a : ℕ) (w : World) (ms : List Moved) → Run f t good w ms → Run f t good w (take a ms)
   run_take zero w ms run = tt
@@ -369,6 +381,31 @@ module _ (f t : ℕ) (good : SiteSet) where
 
     pub rules_of : RulesIn f t good (after f t start ms).log
     rules_of = (inv_run start ms run inv_start').rules
+
+    -- no decision is of view 0
+    pub decided_view : (a i : ℕ) (r : Report) → good i ≡ true → ((after f t start (take a ms)).at i).decision ≡ Some r → 1 ≤ r.view
+    decided_view a i r g h =
+        let log = (after f t start ms).log in
+        decision_view f t good (PreparedIn log) (CommittedIn log) (SpokeIn log) rules_of r.view r.value
+        (decision_backs f t good (PreparedIn log) (CommittedIn log) (SpokeIn log) rules_of r.view r.value (found a i r g h))
+
+    -- what was drafted by a moment, behind b moves, was drafted by a rule-following site in the whole run
+    drafted_by : (b : ℕ) (x : Said) → In x (after f t start (take b ms)).log → (good (who x) ≡ true) × In x (after f t start ms).log
+    drafted_by b x a = let y = log_take b start ms x a in (log_good start ms run x (λ z. absurd (nothing z)) y, y)
+
+    -- whatever is prepared or committed in a view above that of a decision is the value decided
+    module _ (a b i j : ℕ) (r : Report) (view : ℕ) (d : Value) (g : good i ≡ true) (h : ((after f t start (take a ms)).at i).decision ≡ Some r) (l : r.view < view) where
+      pub prepared_later : In (prepare j view d) (after f t start (take b ms)).log → d ≡ r.value
+      prepared_later x =
+          let log = (after f t start ms).log in
+          let y = drafted_by b (prepare j view d) x in
+          prepared_above f t good (PreparedIn log) (CommittedIn log) (SpokeIn log) rules_of r.view view j r.value d (found a i r g h) l y.0 y.1
+
+      pub committed_later : In (commit j view d) (after f t start (take b ms)).log → d ≡ r.value
+      committed_later x =
+          let log = (after f t start ms).log in
+          let y = drafted_by b (commit j view d) x in
+          backed_above f t good (PreparedIn log) (CommittedIn log) (SpokeIn log) rules_of r.view view r.value d (found a i r g h) l (rules_of.backed y.0 y.1)
 
 pub decisions_agree : DecisionsAgree
 decisions_agree f t good few ms run a b i j r s gi gj x y =

@@ -1,3 +1,4 @@
 pub mod Laying
 pub mod Held
 pub mod Equal
+pub mod Bytes

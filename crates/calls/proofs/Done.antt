@@ -1,5 +1,5 @@
 -- What a call that is not refused went through, and what it leaves.
-use Rattle.std.proofs.Common.{◌≡◌, ℕ, ◌<◌, ltb, List, length, Ok, Err, Result, sym, refl, ap, ◌∙◌, subst, arith}
+use Rattle.std.proofs.Common.{◌≡◌, ℕ, ◌<◌, ltb, List, length, Ok, Err, Result, sym, refl, ap, ◌∙◌, subst}
 use Rattle.std.proofs.lemmas.Bool.{ltb-true}
 use Rattle.values.specs.declared.fix.Value.{Value}
 use Rattle.values.specs.Refusals.{Refused, not_higher}
@@ -10,6 +10,7 @@ use Rattle.wire.specs.Contents.{Turn, Content}
 use Rattle.wire.specs.Layout.{message_of, draft_end}
 use Rattle.wire.proofs.Results.{ok_same}
 use Rattle.writing.specs.Written.{sealed_bytes}
+use Rattle.packets.proofs.Sealed.{err_not_ok}
 use Rattle.checks.specs.Vouching.{Vouched}
 use Rattle.certificates.specs.Steps.{Step, passed, answering}
 use Rattle.certificates.specs.Judging.{Call, outcome, reports_of, verdict_call, judge_call}
@@ -20,9 +21,6 @@ use Rattle.calls.specs.Gathering.{gathered, turns_read}
 use Rattle.calls.specs.Steps.{room_steps, propose_steps, leave_steps, seal_steps}
 use Rattle.calls.specs.Effects.{message, wrote, judged, found, Effect, choice, unchanged, proposing, leaving}
 use Rattle.calls.specs.Calls.{Request, to_propose, to_hear, to_leave, to_seal, to_judge, to_read, first, reading, propose_gathered, propose_call, hear_content, hear_call, leave_call, sealing_at, seal_call, judging_call, read_call, performed}
-
-pub err_not_ok : {A : Type 0} {e : Refused} {x : A} → ◌≡◌ {A = Result A Refused} (Err e) (Ok x) → ⊥
-err_not_ok h = let z : ◌≡◌ {A = ℕ} 0 1 = cc in omega arith
 
 -- ---- one part behind another ----
 

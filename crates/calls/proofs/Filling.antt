@@ -20,6 +20,7 @@ use Rattle.wire.proofs.Results.{bind_ok, ok_same}
 use Rattle.wire.proofs.Lengths.{length-tag, tag_read_lem}
 use Rattle.packets.specs.Fits.{VotesFit, CertifiedFits}
 use Rattle.packets.proofs.Only.{opened, wholly_ok}
+use Rattle.packets.proofs.Sealed.{err_not_ok}
 use Rattle.packets.proofs.Whole.{message_only}
 use Rattle.checks.specs.Vouching.{Vouched}
 use Rattle.certificates.specs.Steps.{granted, Step, test, passed, blamed}
@@ -36,7 +37,7 @@ use Rattle.calls.specs.Steps.{permits, row_steps, is_of, room_steps, leads, expe
 use Rattle.calls.specs.Effects.{heard, noted, gathered_all, gathering, head_of}
 use Rattle.calls.specs.Calls.{hear_content}
 use Rattle.calls.specs.Laws.{LegalReport, LegalContent, PrepareHeard, HearFillsPrepare, CommitHeard, HearFillsCommit, NewViewHeard, HearGathers, ProposeHeard, HearPrepares, HeardIsVouched}
-use Rattle.calls.proofs.Done.{err_not_ok, hear_as}
+use Rattle.calls.proofs.Done.{hear_as}
 use Rattle.calls.proofs.Reports.{change_ok}
 use Rattle.calls.proofs.Members.{none_there, members_plus, members_now}
 use Rattle.calls.proofs.Laid.{other_row, own_row, row_inside}
@@ -102,7 +103,7 @@ module _ (v : Vouched) where
       record { round_is = eqb-true c.head.round round a.0; view_is = eqb-true c.head.view view b.0; is_known = d.0; is_legal = e.0; is_vouched = g.0; rest_ok = p.1 }
 
   -- a row that is to be filled is empty
-  row_ok : (o : Option Value) (d : Value) → passed v (row_steps o d) ≡ Ok (tt {0}) → o ≡ None
+  pub row_ok : (o : Option Value) (d : Value) → passed v (row_steps o d) ≡ Ok (tt {0}) → o ≡ None
   row_ok None d h = refl
   row_ok (Some e) d h =
       let p = test_ok (not (same e d)) (Err equivocation) repeated h in

@@ -23,6 +23,7 @@ use Rattle.certificates.specs.Examining.{claim_steps, change_steps, certificate_
 use Rattle.certificates.specs.Reading.{CertifiedStands, certified_in}
 use Rattle.certificates.specs.Judging.{outcome, reports_of, verdict_call}
 use Rattle.certificates.proofs.Passing.{next, passed_append, passed_blamed, answered_ok}
+use Rattle.certificates.proofs.Verdicts.{forcing_small}
 use Rattle.certificates.proofs.Turns.{ok_of, certified_ends}
 use Rattle.records.specs.Rows.{row_of}
 use Rattle.records.specs.Kept.{Membership, Kept}
@@ -79,10 +80,6 @@ pub not_zero : (x : Forcing) → forcing_number x ≡ 0 → ⊥
 not_zero Fast h = omega arith
 not_zero Commit h = omega arith
 
-pub small : (x : Forcing) → forcing_number x ≡ 14 → ⊥
-small Fast h = omega arith
-small Commit h = omega arith
-
 pub by_not_zero : (b : By) → 0 ≡ by_number b → ⊥
 by_not_zero by_fast h = omega arith
 by_not_zero by_commit h = omega arith
@@ -104,7 +101,7 @@ permits_told free (Some y) d h = absurd (let z : forcing_number y.2 ≡ 0 = ap (
 permits_told (forced r b) None d h = absurd (let z : 0 ≡ by_number b = ap (λ (t : Told). t.number) h in by_not_zero b z)
 permits_told (forced r b) (Some y) d h = same_told r.value y.0 d r.view y.1 (ap (λ (t : Told). t.values) h)
 permits_told conflict None d h = absurd (let z : ◌≡◌ {A = ℕ} 0 14 = ap (λ (t : Told). t.number) h in omega arith)
-permits_told conflict (Some y) d h = absurd (let z : forcing_number y.2 ≡ 14 = ap (λ (t : Told). t.number) h in small y.2 z)
+permits_told conflict (Some y) d h = absurd (let z : forcing_number y.2 ≡ 14 = ap (λ (t : Told). t.number) h in forcing_small y.2 z)
 
 -- what is left to test of a proposal, once its certificate is judged
 pub propose_judged : (v : Vouched) (m : Membership) (k : Kept) (view at : ℕ) (ms : List Turn) (d : Value) (o : Option (Value × ℕ × Forcing)) → view ≡ k.view

@@ -1,8 +1,8 @@
 -- The certificate that is drafted reads as the new-views where they lie.
 use Rattle.std.proofs.Common.{◌≡◌, ℕ, zero, suc, ◌+◌, ◌*◌, ◌%◌, ◌^◌, ◌&&◌, ◌≤◌, ◌<◌, Bool, true, false, cond, leb, eqb, List, [], ◌∷◌, ◌++◌, length, take, drop, Ok, Err, Result, slice_index, sym, refl, ap, ap₂, ◌∙◌, arith}
 use Rattle.std.specs.Prelude.{◌==◌}
-use Rattle.std.proofs.lemmas.List.{get_or-drop}
 use Rattle.std.proofs.lemmas.Bool.{leb-true, and_parts, eq-eqb}
+use Rattle.buffers.proofs.Bytes.{bytes_take, bytes_drop}
 use Rattle.buffers.specs.Words.{Bytes, word_bytes}
 use Rattle.buffers.proofs.Held.{whole}
 use Rattle.values.specs.Fleets.{sites}
@@ -19,15 +19,6 @@ use Rattle.records.specs.Books.{Books}
 use Rattle.records.specs.Kept.{Membership, Kept}
 use Rattle.calls.specs.Gathering.{members, joined, placed, turn_of, is_gathered, gathered, gathered_turn, own_progress, turns_read}
 use Rattle.calls.specs.Laws.{JoinedIsRead}
-
-bytes_take : (n : ℕ) (b : List ℕ) → Bytes b → Bytes (take n b)
-bytes_take zero b h i = omega arith
-bytes_take (suc n) [] h i = omega arith
-bytes_take (suc n) (x ∷ b) h zero = h 0
-bytes_take (suc n) (x ∷ b) h (suc i) = bytes_take n b (λ j. h (suc j)) i
-
-bytes_drop : (n : ℕ) (b : List ℕ) → Bytes b → Bytes (drop n b)
-bytes_drop n b h i = let e = get_or-drop n b i 0 in let k = h (n + i) in rw e k
 
 few_cond : (b : Bool) (x : ℕ) (xs : List ℕ) (n : ℕ) → length xs ≤ n → length (cond b (x ∷ xs) xs) ≤ suc n
 few_cond true x xs n h = omega arith

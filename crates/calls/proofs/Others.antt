@@ -55,7 +55,7 @@ fits_report None h = tt
 fits_report (Some r) h = h.1
 
 -- the values that new-views report are of words
-fits_reported : (limit : ℕ) (xs : List Turn) → TurnsFit limit xs → OfReported ValueFits (reports_of xs)
+pub fits_reported : (limit : ℕ) (xs : List Turn) → TurnsFit limit xs → OfReported ValueFits (reports_of xs)
 fits_reported limit [] h = tt
 fits_reported limit (x ∷ xs) h = ((fits_report x.prepared h.0.change.1, fits_report (reported x.committed) h.0.change.2), fits_reported limit xs h.1)
 

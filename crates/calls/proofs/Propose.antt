@@ -26,7 +26,8 @@ use Rattle.calls.specs.Steps.{room_steps, leads, due, propose_steps}
 use Rattle.calls.specs.Effects.{Effect, wrote, choice, unchanged, proposing}
 use Rattle.calls.specs.Calls.{first, reading, propose_gathered, propose_call}
 use Rattle.calls.specs.Hearing.{turns_of}
-use Rattle.calls.proofs.Heard.{not_zero, by_not_zero, small, same_words}
+use Rattle.certificates.proofs.Verdicts.{forcing_small}
+use Rattle.calls.proofs.Heard.{not_zero, by_not_zero, same_words}
 use Rattle.calls.proofs.Hear.{first_fails, first_passes}
 
 -- ---- the room that the passed test gives ----
@@ -55,7 +56,7 @@ choice_told free (Some y) d h = absurd (not_zero y.2 (ap (λ (t : Told). t.numbe
 choice_told (forced r b) None d h = absurd (by_not_zero b (ap (λ (t : Told). t.number) h))
 choice_told (forced r b) (Some y) d h = same_words r.value y.0 r.view y.1 (ap (λ (t : Told). t.values) h)
 choice_told conflict None d h = absurd (let z : ◌≡◌ {A = ℕ} 0 14 = ap (λ (t : Told). t.number) h in omega arith)
-choice_told conflict (Some y) d h = absurd (small y.2 (ap (λ (t : Told). t.number) h))
+choice_told conflict (Some y) d h = absurd (forcing_small y.2 (ap (λ (t : Told). t.number) h))
 
 -- ---- the call ----
 

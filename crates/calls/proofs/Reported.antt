@@ -24,12 +24,12 @@ use Rattle.calls.proofs.Filling.{heard_is_vouched}
 
 -- a report that a site may make when it leaves this view, or a later one
 pub record Sent (view : ℕ) (r : Report) : Type 0 where
-  low : 1 ≤ r.view
-  high : r.view ≤ view
-  fix : legal (fix_of r.value) ≡ true
-  fits : ReportFits (Some r)
+  pub low : 1 ≤ r.view
+  pub high : r.view ≤ view
+  pub fix : legal (fix_of r.value) ≡ true
+  pub fits : ReportFits (Some r)
 
-abbrev SentOf : ℕ → Option Report → Type 0
+abbrev pub SentOf : ℕ → Option Report → Type 0
 SentOf view o = (r : Report) → o ≡ Some r → Sent view r
 
 pub record Reports (k : Kept) : Type 0 where
@@ -40,7 +40,7 @@ pub record Reports (k : Kept) : Type 0 where
 later : (a b : ℕ) (o : Option Report) → a ≤ b → SentOf a o → SentOf b o
 later a b o l h r e = let s = h r e in record { low = s.low; high = omega arith; fix = s.fix; fits = s.fits }
 
-none_sent : (view : ℕ) → SentOf view None
+pub none_sent : (view : ℕ) → SentOf view None
 none_sent view r e = let z : ◌≡◌ {A = ℕ} 0 1 = cc in absurd (omega arith)
 
 one_sent : (view : ℕ) (s : Report) → Sent view s → SentOf view (Some s)
@@ -87,7 +87,7 @@ module _ (v : Vouched) (m : Membership) (k : Kept) (books : Books) (known : Repo
       let p = hear_as v m k books out packet (new_view t) x read h in
       subst Still (sym p.2) (record { first = known.first; prepared = known.prepared; committed = known.committed })
 
-  call_reports : (out : ℕ) (r : Request) (x : Effect) → OfBytes r → performed v m k books out r ≡ Ok x → Still x
+  pub call_reports : (out : ℕ) (r : Request) (x : Effect) → OfBytes r → performed v m k books out r ≡ Ok x → Still x
   call_reports out (to_propose d) x b h =
       let p = propose_done v m k books out d x h in
       subst Still (sym p.is) (record { first = known.first; prepared = known.prepared; committed = known.committed })

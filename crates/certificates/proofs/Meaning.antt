@@ -1,5 +1,5 @@
 -- A certificate that passes, as the rules see it.
-use Rattle.std.proofs.Common.{◌≡◌, ℕ, suc, ◌+◌, ◌<◌, ◌≤◌, Bool, true, false, not, cond, ◌&&◌, leb, ltb, ◌⊎◌, List, [], ◌∷◌, ◌++◌, length, map, Some, None, Ok, Err, Option, Result, sym, refl, ap, ◌∙◌, inl, inr, arith}
+use Rattle.std.proofs.Common.{◌≡◌, ℕ, suc, ◌+◌, ◌<◌, ◌≤◌, Bool, true, false, not, cond, ◌&&◌, leb, ltb, List, [], ◌∷◌, ◌++◌, length, map, Some, None, Ok, Err, Option, Result, sym, refl, ap, ◌∙◌, arith}
 use Rattle.std.specs.Prelude.{◌==◌}
 use Rattle.std.proofs.lemmas.Bool.{eqb-true, ne_eqb, leb-true, ltb-true, and_parts}
 use Rattle.values.specs.declared.fix.Report.{Report}
@@ -17,11 +17,12 @@ use Rattle.agreement.specs.Statements.{Said, new_view, In, Each, Of, Certificate
 use Rattle.agreement.specs.Statements as abstract
 use Rattle.agreement.proofs.Agree.{each_split}
 use Rattle.certificates.specs.Steps.{Question, granted, Step, test, ask, passed, asked, blamed}
-use Rattle.certificates.specs.Faults.{Faulted, failing, other_round, other_view, other_site, bad_count, bad_tag, at_depth}
+use Rattle.certificates.specs.Faults.{Faulted, other_round, other_view, other_site, bad_count, bad_tag, at_depth}
 use Rattle.certificates.specs.Examining.{rising, prepare_of, votes_steps, certified_steps, report_view, report_fix, change_steps, behind_tag, entries_needed, entry_steps, entries_steps, progress_steps}
 use Rattle.certificates.specs.Judging.{reports_of, conflicts, judge_read, outcome}
 use Rattle.certificates.specs.Runs.{said_of, certificate_of, entry_of, Meant}
-use Rattle.certificates.proofs.Passing.{next, passed_append, passed_blamed, answered_ok, answered_err, test_ok, append_ok, blamed_ok}
+use Rattle.certificates.proofs.Passing.{next, passed_append, answered_ok, answered_err, test_ok, append_ok, blamed_ok}
+use Rattle.certificates.proofs.Moved.{Blames, blames_append, blames_blamed, blames_passed}
 use Rattle.certificates.proofs.Laws.{length_map, rises, votes_rise}
 
 -- what an entry reports, by its bytes and as the rules see it
@@ -35,46 +36,39 @@ abbrev number_of : Result (Unit {0}) Refused → ℕ
 number_of (Ok u) = 0
 number_of (Err e) = e.number
 
-next_err : {F : Type 0} (r s : Result (Unit {0}) F) (e : F) → next r s ≡ Err e → (r ≡ Err e) ⊎ (s ≡ Err e)
-next_err (Ok u) s e h = inr h
-next_err (Err f) s e h = inl h
+-- what every fault has
+blames_all : {F : Type 0} (P : F → Type 0) → ((e : F) → P e) → (xs : List (Step F)) → Blames P xs
+blames_all P all [] = tt
+blames_all P all (test b e ∷ xs) = (all e, blames_all P all xs)
+blames_all P all (ask q e ∷ xs) = (all e, blames_all P all xs)
 
-test_err : {F : Type 0} (b : Bool) (r : Result (Unit {0}) F) (f e : F) → cond b r (Err f) ≡ Err e → (f ≡ e) ⊎ (r ≡ Err e)
-test_err true r f e h = inr h
-test_err false r f e h = inl cc
+next_behind : {F : Type 0} (r s : Result (Unit {0}) F) (e : F) → next r s ≡ Err e → (r ≡ Err e → ⊥) → (r ≡ Ok (tt {0})) × (s ≡ Err e)
+next_behind (Ok u) s e h k = (refl, h)
+next_behind (Err f) s e h k = absurd (k h)
 
-failing_number : (depth : ℕ) (r : Result (Unit {0}) Faulted) (e : Refused) → failing (at_depth depth) r ≡ Err e → e.number ≡ 12
-failing_number depth (Ok u) e h = absurd (let z : ◌≡◌ {A = ℕ} 0 1 = cc in omega arith)
-failing_number depth (Err x) e h = let z : at_depth depth x ≡ e = cc in sym (ap (λ (y : Refused). y.number) z)
+-- a fault that is not among those in front: all in front is passed
+pub behind : {F : Type 0} (P : F → Type 0) (v : Vouched) (xs ys : List (Step F)) (e : F) → passed v (xs ++ ys) ≡ Err e → Blames P xs → (P e → ⊥) → (passed v xs ≡ Ok (tt {0})) × (passed v ys ≡ Err e)
+behind P v xs ys e h f k = next_behind (passed v xs) (passed v ys) e (sym (passed_append v xs ys) ∙ h) (λ z. k (blames_passed P v xs e f z))
 
-blamed_number : (v : Vouched) (depth : ℕ) (xs : List (Step Faulted)) (e : Refused) → passed v (blamed (at_depth depth) xs) ≡ Err e → e.number ≡ 12
-blamed_number v depth xs e h = failing_number depth (passed v xs) e (sym (passed_blamed (at_depth depth) v xs) ∙ h)
+-- of a certificate
+abbrev pub Twelve : Refused → Type 0
+Twelve e = e.number ≡ 12
 
-module _ (v : Vouched) (f t round view : ℕ) where
-  entry_number : (low place : ℕ) (m : Turn) (e : Refused) → passed v (entry_steps f t round view low place m) ≡ Err e → e.number ≡ 12
-  entry_number low place m e h =
+pub depth_numbers : (depth : ℕ) (xs : List (Step Faulted)) → Blames Twelve (blamed (at_depth depth) xs)
+depth_numbers depth xs = blames_blamed Twelve (at_depth depth) xs (blames_all (λ (e : Faulted). Twelve (at_depth depth e)) (λ e. refl) xs)
+
+module _ (f t round view : ℕ) where
+  entries_numbers : (low place : ℕ) (ms : List Turn) → Blames Twelve (entries_steps f t round view low place ms)
+  entries_numbers low place [] = tt
+  entries_numbers low place (m ∷ ms) =
       let own = change_steps round view (rising (sites f t) low m.head.site) place (change_of m) m.tag in
       let inner = certified_steps f t round (behind_tag place m) m.committed in
-      elim (next_err (passed v (blamed (at_depth 1) own)) (passed v (blamed (at_depth 2) inner)) e (sym (passed_append v (blamed (at_depth 1) own) (blamed (at_depth 2) inner)) ∙ h)) [
-        | inl k ↦ blamed_number v 1 own e k
-        | inr k ↦ blamed_number v 2 inner e k
-      ]
-
-  entries_number : (low place : ℕ) (ms : List Turn) (e : Refused) → passed v (entries_steps f t round view low place ms) ≡ Err e → e.number ≡ 12
-  entries_number low place [] e h = absurd (let z : ◌≡◌ {A = ℕ} 0 1 = cc in omega arith)
-  entries_number low place (m ∷ ms) e h =
       let rest = entries_steps f t round view (m.head.site + 1) (place + length (turn_bytes m)) ms in
-      elim (next_err (passed v (entry_steps f t round view low place m)) (passed v rest) e (sym (passed_append v (entry_steps f t round view low place m) rest) ∙ h)) [
-        | inl k ↦ entry_number low place m e k
-        | inr k ↦ entries_number (m.head.site + 1) (place + length (turn_bytes m)) ms e k
-      ]
+      let entry = blames_append Twelve (blamed (at_depth 1) own) (blamed (at_depth 2) inner) (depth_numbers 1 own) (depth_numbers 2 inner) in
+      blames_append Twelve (entry_steps f t round view low place m) rest entry (entries_numbers (m.head.site + 1) (place + length (turn_bytes m)) ms)
 
-  progress_number : (place : ℕ) (ms : List Turn) (e : Refused) → passed v (progress_steps f t round view place ms) ≡ Err e → e.number ≡ 12
-  progress_number place ms e h =
-      elim (test_err (length ms == entries_needed f t view) (passed v (entries_steps f t round view 0 (place + 4) ms)) (at_depth 1 (bad_count place)) e h) [
-        | inl k ↦ sym (ap (λ (y : Refused). y.number) k)
-        | inr k ↦ entries_number 0 (place + 4) ms e k
-      ]
+  pub progress_numbers : (place : ℕ) (ms : List Turn) → Blames Twelve (progress_steps f t round view place ms)
+  progress_numbers place ms = (refl, entries_numbers 0 (place + 4) ms)
 
 -- ---- questions of lists of steps ----
 
@@ -83,30 +77,36 @@ each_join P [] ys h k = k
 each_join P (x ∷ xs) ys h k = (h.0, each_join P xs ys h.1 k)
 
 module _ (v : Vouched) where
-  asked_append : {F : Type 0} (xs ys : List (Step F)) → passed v xs ≡ Ok (tt {0}) → asked v (xs ++ ys) ≡ asked v xs ++ asked v ys
+  pub asked_append : {F : Type 0} (xs ys : List (Step F)) → passed v xs ≡ Ok (tt {0}) → asked v (xs ++ ys) ≡ asked v xs ++ asked v ys
   asked_append [] ys h = refl
   asked_append (test b e ∷ xs) ys h = let p = test_ok b (passed v xs) e h in rw p.0 (asked_append xs ys p.1)
   asked_append (ask q e ∷ xs) ys h = let p = test_ok (granted v q) (passed v xs) e h in rw p.0 (ap (λ (qs : List Question). q ∷ qs) (asked_append xs ys p.1))
 
-  asked_blamed : {E F : Type 0} (g : E → F) (xs : List (Step E)) → asked v (blamed g xs) ≡ asked v xs
+  pub asked_blamed : {E F : Type 0} (g : E → F) (xs : List (Step E)) → asked v (blamed g xs) ≡ asked v xs
   asked_blamed g [] = refl
   asked_blamed g (test b e ∷ xs) = ap (λ (qs : List Question). cond b qs []) (asked_blamed g xs)
   asked_blamed g (ask q e ∷ xs) = ap (λ (qs : List Question). q ∷ cond (granted v q) qs []) (asked_blamed g xs)
 
+  -- the test behind a progress certificate fails for a conflict alone
+  pub conflict_by : (x : Finding) (e : Refused) → passed v (test (not (conflicts x)) conflicting ∷ []) ≡ Err e → x ≡ conflict
+  conflict_by free e h = absurd (let z : ◌≡◌ {A = ℕ} 0 1 = cc in omega arith)
+  conflict_by (forced r c) e h = absurd (let z : ◌≡◌ {A = ℕ} 0 1 = cc in omega arith)
+  conflict_by conflict e h = refl
+
   module _ (good : SiteSet) (log : List Said) where
-    abbrev Means : {F : Type 0} → List (Step F) → Type 0
+    abbrev pub Means : {F : Type 0} → List (Step F) → Type 0
     Means xs = Meant good log v (asked v xs)
 
-    meant_append : {F : Type 0} (xs ys : List (Step F)) → passed v xs ≡ Ok (tt {0}) → Means (xs ++ ys) → Means xs × Means ys
+    pub meant_append : {F : Type 0} (xs ys : List (Step F)) → passed v xs ≡ Ok (tt {0}) → Means (xs ++ ys) → Means xs × Means ys
     meant_append xs ys h k = each_split (λ (q : Question). granted v q ≡ true → good q.site ≡ true → In (said_of q.said) log) (asked v xs) (asked v ys) (rw (asked_append xs ys h) at k)
 
-    meant_test : {F : Type 0} (b : Bool) (e : F) (xs : List (Step F)) → b ≡ true → Means (test b e ∷ xs) → Means xs
+    pub meant_test : {F : Type 0} (b : Bool) (e : F) (xs : List (Step F)) → b ≡ true → Means (test b e ∷ xs) → Means xs
     meant_test b e xs h k = rw h at k
 
-    meant_ask : {F : Type 0} (q : Question) (e : F) (xs : List (Step F)) → granted v q ≡ true → Means (ask q e ∷ xs) → (good q.site ≡ true → In (said_of q.said) log) × Means xs
+    pub meant_ask : {F : Type 0} (q : Question) (e : F) (xs : List (Step F)) → granted v q ≡ true → Means (ask q e ∷ xs) → (good q.site ≡ true → In (said_of q.said) log) × Means xs
     meant_ask q e xs h k = (k.0 h, rw h at k.1)
 
-    meant_blamed : {E F : Type 0} (g : E → F) (xs : List (Step E)) → Means (blamed g xs) → Means xs
+    pub meant_blamed : {E F : Type 0} (g : E → F) (xs : List (Step E)) → Means (blamed g xs) → Means xs
     meant_blamed g xs k = rw (asked_blamed g xs) at k
 
     -- ---- commit certificates ----
@@ -223,7 +223,7 @@ module _ (v : Vouched) where
           }
 
       -- a progress certificate that passes
-      progress_meant : (place : ℕ) (ms : List Turn) → passed v (progress_steps f t round view place ms) ≡ Ok (tt {0}) → Means (progress_steps f t round view place ms)
+      pub progress_meant : (place : ℕ) (ms : List Turn) → passed v (progress_steps f t round view place ms) ≡ Ok (tt {0}) → Means (progress_steps f t round view place ms)
           → (length ms ≡ entries_needed f t view) × EntriesMeant 0 (map entry_of ms)
       progress_meant place ms h k =
           let entries = entries_steps f t round view 0 (place + 4) ms in
@@ -278,24 +278,17 @@ module _ (v : Vouched) where
         pub entries : EntriesMeant 0 (map entry_of turns)
         pub found : Finds turns ≡ conflict
 
-      conflict_by : (x : Finding) → passed v (test (not (conflicts x)) conflicting ∷ []) ≡ Err conflicting → x ≡ conflict
-      conflict_by free h = absurd (let z : ◌≡◌ {A = ℕ} 0 1 = cc in omega arith)
-      conflict_by (forced r c) h = absurd (let z : ◌≡◌ {A = ℕ} 0 1 = cc in omega arith)
-      conflict_by conflict h = refl
-
-      conflicted_in : (ms : List Turn) (r : Result (Unit {0}) Refused) → passed v (progress_steps f t round view 0 ms) ≡ r → next r (passed v (last_test ms)) ≡ Err conflicting
-          → Means (progress_steps f t round view 0 ms ++ last_test ms) → 1 ≤ view → Conflicted
-      conflicted_in ms (Ok u) e h k one =
-          let y = meant_append (progress_steps f t round view 0 ms) (last_test ms) e k in
-          let m = progress_meant 0 ms e y.0 in
-          record { turns = ms; view_low = one; count = m.0; entries = m.1; found = conflict_by (Finds ms) h }
-      conflicted_in ms (Err x) e h k one =
-          absurd (let z : x.number ≡ 14 = ap number_of h in omega (arith, progress_number v f t round view 0 ms x e))
+      conflicted_in : (ms : List Turn) → passed v (progress_steps f t round view 0 ms ++ last_test ms) ≡ Err conflicting → Means (progress_steps f t round view 0 ms ++ last_test ms) → 1 ≤ view → Conflicted
+      conflicted_in ms h k one =
+          let p = behind Twelve v (progress_steps f t round view 0 ms) (last_test ms) conflicting h (progress_numbers f t round view 0 ms) (λ z. omega arith) in
+          let y = meant_append (progress_steps f t round view 0 ms) (last_test ms) p.0 k in
+          let m = progress_meant 0 ms p.0 y.0 in
+          record { turns = ms; view_low = one; count = m.0; entries = m.1; found = conflict_by (Finds ms) conflicting p.1 }
 
       conflicted_at : (ms : List Turn) (b : Bool) → leb 1 view ≡ b → passed v (test b (wrong_view 0) ∷ (progress_steps f t round view 0 ms ++ last_test ms)) ≡ Err conflicting
           → Means (test b (wrong_view 0) ∷ (progress_steps f t round view 0 ms ++ last_test ms)) → Conflicted
       conflicted_at ms true e h k =
-          conflicted_in ms (passed v (progress_steps f t round view 0 ms)) refl (sym (passed_append v (progress_steps f t round view 0 ms) (last_test ms)) ∙ h) k (leb-true 1 view e)
+          conflicted_in ms h k (leb-true 1 view e)
       conflicted_at ms false e h k = absurd (let z = ap number_of h in omega (arith, z))
 
       pub judged_conflict : (r : Result (List Turn) Malformed) → outcome v (judge_read f t round view r) ≡ Err conflicting → Means (judge_read f t round view r).steps → Conflicted

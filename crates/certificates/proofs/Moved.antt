@@ -97,12 +97,12 @@ Blames P [] = Unit {0}
 Blames P (test b e ∷ xs) = P e × Blames P xs
 Blames P (ask q e ∷ xs) = P e × Blames P xs
 
-blames_append : {F : Type 0} (P : F → Type 0) (xs ys : List (Step F)) → Blames P xs → Blames P ys → Blames P (xs ++ ys)
+pub blames_append : {F : Type 0} (P : F → Type 0) (xs ys : List (Step F)) → Blames P xs → Blames P ys → Blames P (xs ++ ys)
 blames_append P [] ys h k = k
 blames_append P (test b e ∷ xs) ys h k = (h.0, blames_append P xs ys h.1 k)
 blames_append P (ask q e ∷ xs) ys h k = (h.0, blames_append P xs ys h.1 k)
 
-blames_blamed : {E F : Type 0} (P : F → Type 0) (g : E → F) (xs : List (Step E)) → Blames (λ (e : E). P (g e)) xs → Blames P (blamed g xs)
+pub blames_blamed : {E F : Type 0} (P : F → Type 0) (g : E → F) (xs : List (Step E)) → Blames (λ (e : E). P (g e)) xs → Blames P (blamed g xs)
 blames_blamed P g [] h = tt
 blames_blamed P g (test b e ∷ xs) h = (h.0, blames_blamed P g xs h.1)
 blames_blamed P g (ask q e ∷ xs) h = (h.0, blames_blamed P g xs h.1)

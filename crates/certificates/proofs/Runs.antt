@@ -9,16 +9,20 @@ use Rattle.wire.specs.Contents.{Turn}
 use Rattle.wire.specs.Layout.{progress_of}
 use Rattle.agreement.specs.Statements.{report_of, judged, Forces}
 use Rattle.agreement.specs.Statements as abstract
-use Rattle.agreement.specs.Moves.{start, world_at, after}
+use Rattle.agreement.specs.Moves.{start, world_at, after, Moved, Run}
+use Rattle.agreement.specs.Sites.{SiteSet, size, all_but}
+use Rattle.values.specs.Fleets.{sites}
+use Rattle.checks.specs.Vouching.{Vouched}
+use Rattle.certificates.specs.Examining.{entries_needed}
 use Rattle.agreement.proofs.Rules.{PreparedIn, CommittedIn, SpokeIn}
 use Rattle.agreement.proofs.Agree.{decision_view, decision_backs}
 use Rattle.agreement.proofs.Keep.{found, rules_of, later_forced, never_conflict}
 use Rattle.certificates.specs.Judging.{reports_of, judge_call}
 use Rattle.certificates.specs.Runs.{entry_of, JudgingKeepsDecisions, JudgingNeverConflicts}
-use Rattle.certificates.proofs.Meaning.{report_same, formed, judged_ok, judged_conflict}
+use Rattle.certificates.proofs.Meaning.{report_same, EntriesMeant, formed, judged_ok, judged_conflict}
 
 -- the entries' reports, by their bytes and as the rules see them
-reports_same : (ms : List Turn) → reports_of ms ≡ map abstract.reported (map entry_of ms)
+pub reports_same : (ms : List Turn) → reports_of ms ≡ map abstract.reported (map entry_of ms)
 reports_same [] = refl
 reports_same (m ∷ ms) = rw (report_same m.committed, reports_same ms)
 
@@ -46,13 +50,19 @@ unfolding finding
 nothing_conflicts f t [] h k = let z : ◌≡◌ {A = ℕ} 0 1 = cc in omega arith
 nothing_conflicts f t (m ∷ ms) h k = omega arith
 
+-- and in no run does a progress certificate that passes, and is as meant, come to one
+pub no_conflict : (f t : ℕ) (good : SiteSet) → size (all_but good) (sites f t) ≤ f → (ms : List Moved) → Run f t good start ms
+    → (b : ℕ) (v : Vouched) (round view : ℕ) (turns : List Turn) → 1 ≤ view → length turns ≡ entries_needed f t view
+    → EntriesMeant v good (world_at f t ms b).log f t round view 0 (map entry_of turns) → finding f t (reports_of turns) ≡ conflict → ⊥
+no_conflict f t good few ms run b v round view turns low count entries found = elim (cases_eq view 1) [
+  | inl e ↦ nothing_conflicts f t turns (count ∙ rw e) found
+  | inr ne ↦ never_conflict f t good few ms run b view (map entry_of turns)
+      (formed v good (world_at f t ms b).log f t round view turns (omega arith) count entries, entries.drafted)
+      (ap (λ (es : List Reported). finding f t es) (sym (reports_same turns)) ∙ found)
+]
+
 pub judging_never_conflicts : JudgingNeverConflicts
 unfolding judge_call
 judging_never_conflicts f t good few ms run b v limit round view bytes meant h =
     let c = judged_conflict v good (world_at f t ms b).log f t round view (progress_of limit bytes) h meant in
-    elim (cases_eq view 1) [
-      | inl e ↦ nothing_conflicts f t c.turns (c.count ∙ rw e) c.found
-      | inr ne ↦ never_conflict f t good few ms run b view (map entry_of c.turns)
-          (formed v good (world_at f t ms b).log f t round view c.turns (omega (arith, c.view_low)) c.count c.entries, c.entries.drafted)
-          (ap (λ (es : List Reported). finding f t es) (sym (reports_same c.turns)) ∙ c.found)
-    ]
+    no_conflict f t good few ms run b v round view c.turns c.view_low c.count c.entries c.found

@@ -27,9 +27,6 @@ pub ok_of : {A : Type 0} (r : Result A Malformed) → IsOk r → (x : A) × (r �
 ok_of (Ok x) h = (x, refl)
 ok_of (Err e) h = absurd (false≢true h)
 
-pub is_ok_by : {A : Type 0} (r : Result A Malformed) (x : A) → r ≡ Ok x → IsOk r
-is_ok_by r x e = rw e
-
 -- ---- the certificate of a reported commit ----
 
 votes_end : (limit : ℕ) (b : List ℕ) (n at : ℕ) (p : List Vote × ℕ) → many_at (vote_at limit b) n at ≡ Ok p → p.1 ≡ at + length (votes_bytes p.0)

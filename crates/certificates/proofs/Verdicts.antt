@@ -17,7 +17,7 @@ by_small : (c : By) → by_number c ≡ 14 → ⊥
 by_small by_fast h = omega arith
 by_small by_commit h = omega arith
 
-forcing_small : (c : Forcing) → forcing_number c ≡ 14 → ⊥
+pub forcing_small : (c : Forcing) → forcing_number c ≡ 14 → ⊥
 forcing_small Fast h = omega arith
 forcing_small Commit h = omega arith
 

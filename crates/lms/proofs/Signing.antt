@@ -1,5 +1,5 @@
 -- Every signature that a key makes is valid under it.
-use Rattle.std.proofs.Common.{◌≡◌, ℕ, zero, suc, ◌+◌, ◌-◌, ◌*◌, ◌/◌, ◌%◌, ◌^◌, ◌<◌, ◌≤◌, ◌⊎◌, List, [], ◌∷◌, ◌++◌, length, take, drop, Some, sym, refl, ap, ◌∙◌, inl, inr, add-zero, add-suc, mul-le-mul_left, mul-zero, zero-add, mul-suc, div-one, add-one, arith, length-append, length-drop}
+use Rattle.std.proofs.Common.{◌≡◌, ℕ, zero, suc, ◌+◌, ◌-◌, ◌*◌, ◌/◌, ◌%◌, ◌^◌, ◌<◌, ◌≤◌, ◌⊎◌, List, ◌++◌, length, take, drop, Some, sym, refl, ap, ◌∙◌, inl, inr, add-zero, add-suc, mul-le-mul_left, mul-zero, zero-add, mul-suc, div-one, add-one, arith, length-append, length-drop}
 use Rattle.std.proofs.lemmas.Nat.{shr-shr}
 use Rattle.std.proofs.lemmas.List.{drop-append-le, take-append-le, drop_at, take_all}
 use Rattle.std.proofs.lemmas.Bool.{cases_lt, cases_eq, eq-eqb, ne_eqb, lt-ltb}
@@ -9,6 +9,7 @@ use Rattle.sha256.proofs.Blocks.{Bytes-sha256}
 use Rattle.lms.specs.Lms.{u8str, u16str, u32str, nth, coef, Form, m32_h5, hashed, D-PBLC, D-LEAF, D-INTR, Cksm, chain, z, ends, Q, summed, Kc, in_order, climbed, Tc, signature_of, key_of, valid}
 use Rattle.lms.specs.Signing.{joined, one_time_key, y, T, public_key, sibling, path_node, signature, SignedIsValid}
 use Rattle.buffers.proofs.Equal.{equal}
+use Rattle.buffers.proofs.Bytes.{bytes_take, bytes_append}
 use Rattle.buffers.proofs.Held.{front, next, whole, word_held, part_held}
 use Rattle.lms.proofs.Texts.{length-hashed}
 
@@ -142,17 +143,6 @@ signature_read_lem q C ys path hq lc ly lp =
     rw (a, b, d, leaf, e, c, w, t) refl
 
 -- the steps at which chains start are bytes
-bytes_take : (n : ℕ) (xs : List ℕ) → Bytes xs → Bytes (take n xs)
-bytes_take zero xs b i = omega arith
-bytes_take (suc n) [] b i = omega arith
-bytes_take (suc n) (x ∷ xs) b zero = b zero
-bytes_take (suc n) (x ∷ xs) b (suc i) = bytes_take n xs (λ j. b (suc j)) i
-
-Bytes-append : (xs ys : List ℕ) → Bytes xs → Bytes ys → Bytes (xs ++ ys)
-Bytes-append [] ys b d i = d i
-Bytes-append (x ∷ xs) ys b d zero = b zero
-Bytes-append (x ∷ xs) ys b d (suc i) = Bytes-append xs ys (λ j. b (suc j)) d i
-
 Bytes-u16str : (w : ℕ) → Bytes (u16str w)
 Bytes-u16str w zero = omega arith
 Bytes-u16str w (suc zero) = omega arith
@@ -160,7 +150,7 @@ Bytes-u16str w (suc (suc i)) = omega arith
 
 Bytes-summed : (n : ℕ) (s : List ℕ) → Bytes (summed (hashed n s))
 unfolding hashed
-Bytes-summed n s = Bytes-append (take n (sha256 s)) _ (bytes_take n (sha256 s) (Bytes-sha256 s)) (Bytes-u16str (Cksm (take n (sha256 s))))
+Bytes-summed n s = bytes_append (take n (sha256 s)) _ (bytes_take n (sha256 s) (Bytes-sha256 s)) (Bytes-u16str (Cksm (take n (sha256 s))))
 
 module _ (I : List ℕ) (x : ℕ → ℕ → List ℕ) (q : ℕ) (C message : List ℕ) (long : (r i : ℕ) → length (x r i) ≡ 32) (small : q < 32) where
   abbrev steps : List ℕ

@@ -252,11 +252,17 @@ said_at b = bind (word_at b 0) (λ k.
     (cond (eqb k 3) (said_as Commit (claim_at b 4))
     (bind (change_at b 4) (λ p. Ok (NewView p.0))))))
 
-said_back : (s : Statement) → StatementFits s → said_at (statement_bytes s) ≡ Ok s
-said_back (Propose c) fits = let b = statement_bytes (Propose c) in rw (word_back b 0 1 (omega arith) (front (word_bytes 1) (claim_bytes c) (whole b)), claim_back b 4 c fits (next 4 (word_bytes 1) (claim_bytes c) refl (whole b)))
-said_back (Prepare c) fits = let b = statement_bytes (Prepare c) in rw (word_back b 0 2 (omega arith) (front (word_bytes 2) (claim_bytes c) (whole b)), claim_back b 4 c fits (next 4 (word_bytes 2) (claim_bytes c) refl (whole b)))
-said_back (Commit c) fits = let b = statement_bytes (Commit c) in rw (word_back b 0 3 (omega arith) (front (word_bytes 3) (claim_bytes c) (whole b)), claim_back b 4 c fits (next 4 (word_bytes 3) (claim_bytes c) refl (whole b)))
-said_back (NewView c) fits = let b = statement_bytes (NewView c) in rw (word_back b 0 4 (omega arith) (front (word_bytes 4) (change_bytes c) (whole b)), change_back b 4 c fits (next 4 (word_bytes 4) (change_bytes c) refl (whole b)))
+said_back : (s : Statement) → StatementFits s → (b : List ℕ) → Held b 0 (statement_bytes s) → said_at b ≡ Ok s
+said_back (Propose c) fits b h = rw (word_back b 0 1 (omega arith) (front (word_bytes 1) (claim_bytes c) h), claim_back b 4 c fits (next 4 (word_bytes 1) (claim_bytes c) refl h))
+said_back (Prepare c) fits b h = rw (word_back b 0 2 (omega arith) (front (word_bytes 2) (claim_bytes c) h), claim_back b 4 c fits (next 4 (word_bytes 2) (claim_bytes c) refl h))
+said_back (Commit c) fits b h = rw (word_back b 0 3 (omega arith) (front (word_bytes 3) (claim_bytes c) h), claim_back b 4 c fits (next 4 (word_bytes 3) (claim_bytes c) refl h))
+said_back (NewView c) fits b h = rw (word_back b 0 4 (omega arith) (front (word_bytes 4) (change_bytes c) h), change_back b 4 c fits (next 4 (word_bytes 4) (change_bytes c) refl h))
+
+-- bytes begin with one statement only
+pub fronts_apart : (s t : Statement) (a b : List ℕ) → StatementFits s → StatementFits t → statement_bytes s ++ a ≡ statement_bytes t ++ b → s ≡ t
+fronts_apart s t a b fits fits' e =
+    let both = statement_bytes t ++ b in
+    ok_same (sym (said_back s fits both (record { rest = a; is = sym e })) ∙ said_back t fits' both (record { rest = b; is = refl }))
 
 pub told_apart : (s t : Statement) → StatementFits s → StatementFits t → statement_bytes s ≡ statement_bytes t → s ≡ t
-told_apart s t fits fits' e = ok_same (sym (said_back s fits) ∙ ap said_at e ∙ said_back t fits')
+told_apart s t fits fits' e = fronts_apart s t [] [] fits fits' (ap (λ (xs : List ℕ). xs ++ []) e)

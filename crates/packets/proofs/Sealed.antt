@@ -20,7 +20,7 @@ use Rattle.buffers.proofs.Held.{front, whole}
 use Rattle.packets.proofs.Back.{word_back, message_back, draft_back, told_apart}
 use Rattle.packets.proofs.Whole.{message_only, draft_only}
 
-err_not_ok : {A : Type 0} {e : Refused} {x : A} → ◌≡◌ {A = Result A Refused} (Err e) (Ok x) → ⊥
+pub err_not_ok : {A : Type 0} {e : Refused} {x : A} → ◌≡◌ {A = Result A Refused} (Err e) (Ok x) → ⊥
 err_not_ok h = let z : ◌≡◌ {A = ℕ} 0 1 = cc in omega arith
 
 past : (xs ys zs : List ℕ) → drop (length xs + length ys) (xs ++ (ys ++ zs)) ≡ zs
