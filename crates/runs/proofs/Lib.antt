@@ -1,0 +1,14 @@
+pub mod Drafted
+pub mod Abstract
+pub mod Moves
+pub mod Standing
+pub mod Asked
+pub mod Lists
+pub mod Followed
+pub mod Refused
+pub mod Agreed
+pub mod Later
+pub mod Watching
+pub mod Happens
+pub mod TwoLiars
+pub mod Laws
