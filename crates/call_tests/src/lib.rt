@@ -4,6 +4,8 @@
 #[cfg(test)]
 mod admits;
 #[cfg(test)]
+mod answers;
+#[cfg(test)]
 mod asked;
 #[cfg(test)]
 mod base;

@@ -1,7 +1,6 @@
 // A site's record, and what its calls test before they change anything.
-ghost use Rattle.std.specs.Prelude.{◌≡◌, length, Ok, IfOk};
+ghost use Rattle.std.specs.Prelude.{◌≡◌, length};
 ghost use Rattle.values.specs.Refusals.{answered};
-ghost use Rattle.wire.specs.Layout.{draft_end};
 ghost use Rattle.checks.specs.Vouching.{Vouched};
 ghost use Rattle.certificates.specs.Steps.{passed};
 ghost use Rattle.certificates.specs.Judging.{outcome};
@@ -10,13 +9,10 @@ ghost use Rattle.records.specs.Kept.{membership_of, kept_of};
 ghost use Rattle.calls.specs.Gathering.{gathered};
 ghost use Rattle.calls.specs.Steps.{room_steps, leads};
 ghost use Rattle.calls.specs.Effects.{leaving};
-ghost use Rattle.calls.specs.Calls.{leave_call, seal_call, sealing_at};
+ghost use Rattle.calls.specs.Calls.{leave_call};
 
-use messages::draft_end;
 use records::{Books, Member, Round, Sizes};
 use values::{Refusal, View};
-use wire::Packet;
-use writing::Tag;
 
 // What open took, and what the site keeps of its round.
 #[derive(Clone, Copy, Debug, PartialEq, Eq)]
@@ -65,22 +61,5 @@ impl Record {
             Some(higher) if view > self.round.view.number() => Ok(higher),
             _ => Err(Refusal::NotHigher),
         }
-    }
-
-    // What seal tests; the place behind the draft's statement.
-    #[tactic(auto, unfolding(crate::specs::Calls::seal_call))]
-    pub fn may_seal(&self, draft: &[u8], tag: &[u8], out: usize) -> Result<usize, Refusal>
-        ensures value { (v : Vouched) (books : Rattle.records.specs.Books.Books) → answered (λ end. (sealing_at (membership_of self.now.member) (kept_of self.now.round) books draft.now tag.now end).answer) result ≡ outcome v (seal_call (membership_of self.now.member) (kept_of self.now.round) books out draft.now tag.now) }
-        ensures place { IfOk result (λ end. draft_end self.now.member.limit.bytes draft.now ≡ Ok end) }
-    {
-        let limit = self.member.limit;
-        Tag::within(limit, tag)?;
-        if out < draft.len() || out - draft.len() < limit.bytes() + 4 {
-            return Err(Refusal::Short);
-        }
-        Ok(draft_end(Packet {
-            bytes: draft,
-            limit,
-        })?)
     }
 }

@@ -1,0 +1,6 @@
+// A site: its record, and the calls that its users make.
+#![tactic(auto)]
+
+mod site;
+
+pub use site::Site;

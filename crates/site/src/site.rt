@@ -1,0 +1,72 @@
+// A site's record, and read, judge and seal over it.
+ghost use Rattle.std.specs.Prelude.{◌≡◌, ℕ, length, Ok};
+ghost use Rattle.std.specs.Option.{option_map};
+ghost use Rattle.values.specs.Refusals.{answered};
+ghost use Rattle.verdicts.specs.Told.{verdict_told};
+ghost use Rattle.checks.specs.Vouching.{Vouched};
+ghost use Rattle.records.specs.Books.{Books};
+ghost use Rattle.records.specs.Kept.{membership_of, kept_of, decided_as};
+ghost use Rattle.calls.specs.Effects.{wrote, judged, found};
+ghost use Rattle.calls.specs.Calls.{to_seal, to_judge, to_read, performed, answer_of, out_after};
+ghost use Rattle.runs.specs.Laws.{RunLaws};
+ghost use Rattle.runs.specs.Promises.{DecisionsAgree, LaterCertificatesForce, LaterViewsKeepIt, NeverConflict};
+ghost use Rattle.runs.specs.Happens.{Happens};
+ghost use Rattle.runs.specs.TwoLiars.{TwoLiars};
+
+use calls::Record;
+use certificates::judge;
+use checks::Check;
+use records::Decision;
+use values::Refusal;
+use verdicts::Verdict;
+use writing::seal;
+
+#[derive(Clone, Copy, Debug, PartialEq, Eq)]
+pub struct Site {
+    pub record: Record,
+}
+
+impl Site {
+    // The decision, if there is one. What every run keeps of decisions stands in this contract.
+    pub fn read(&self) -> Option<Decision>
+        ensures value { (v : Vouched) (books : Books) (out : ℕ) → answer_of (performed v (membership_of self.now.record.member) (kept_of self.now.record.round) books out to_read) ≡ Ok (found (option_map decided_as result)) }
+        ensures agree { DecisionsAgree }
+        ensures later_views { LaterViewsKeepIt }
+        ensures laws { RunLaws }
+        ensures happens { Happens }
+        ensures two_liars { TwoLiars }
+    {
+        self.record.round.decision
+    }
+
+    // What a progress certificate for a view lets be proposed, in the round of the record. What
+    // every run keeps of verdicts stands in this contract.
+    pub fn judge<C: Check>(
+        &self,
+        view: u32,
+        certificate: &[u8],
+        check: &C,
+    ) -> Result<Verdict, Refusal>
+        ensures value { (books : Books) (out : ℕ) → answered (λ x. judged (verdict_told x)) result ≡ answer_of (performed (C.Check.vouched check.now) (membership_of self.now.record.member) (kept_of self.now.record.round) books out (to_judge view certificate.now)) }
+        ensures later_certificates { LaterCertificatesForce }
+        ensures conflict { NeverConflict }
+    {
+        let Record { member, round } = &self.record;
+        judge(
+            member.fleet,
+            member.limit,
+            round.number,
+            view,
+            certificate,
+            check,
+        )
+    }
+
+    // Puts a tag into a draft; the message stands at the start of `out`. Answers its length.
+    pub fn seal(&self, draft: &[u8], tag: &[u8], out: &mut [u8]) -> Result<usize, Refusal>
+        ensures value { (v : Vouched) (books : Books) → answered (λ n. wrote n) result ≡ answer_of (performed v (membership_of self.now.record.member) (kept_of self.now.record.round) books (length out.old) (to_seal draft.now tag.now)) }
+        ensures after { (v : Vouched) (books : Books) → out.new ≡ out_after out.old (performed v (membership_of self.now.record.member) (kept_of self.now.record.round) books (length out.old) (to_seal draft.now tag.now)) }
+    {
+        seal(draft, tag, self.record.member.limit, out)
+    }
+}
