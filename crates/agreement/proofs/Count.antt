@@ -12,6 +12,18 @@ pub size_le : (P Q : SiteSet) (n : ℕ) → ((i : ℕ) → i < n → P i ≡ tru
 size_le P Q zero h = omega arith
 size_le P Q (suc n) h = omega (arith, bit_le (P n) (Q n) (h n (omega arith)), size_le P Q n (λ i l. h i (omega arith)))
 
+bit_small : (b : Bool) → bit b ≤ 1
+bit_small true = omega arith
+bit_small false = omega arith
+
+-- a set that another one has but for one site is larger by one at most
+pub size_but : (P Q : SiteSet) (j n : ℕ) → ((k : ℕ) → (k ≡ j → ⊥) → P k ≡ true → Q k ≡ true) → size P n ≤ size Q n + 1
+size_but P Q j zero h = omega arith
+size_but P Q j (suc n) h = elim (cases_eq n j) [
+  | inl e ↦ omega (arith, bit_small (P n), size_le P Q n (λ k l. h k (λ q. omega arith)))
+  | inr ne ↦ omega (arith, bit_le (P n) (Q n) (h n ne), size_but P Q j n h)
+]
+
 meet_bit : (p q g : Bool) → bit p + bit q ≤ 1 + bit ((p && q) && g) + bit (not g)
 meet_bit true true true = omega arith
 meet_bit true true false = omega arith
@@ -75,10 +87,6 @@ size_same P Q (suc n) h = omega (arith, ap bit (h n (omega arith)), size_same P 
 pub size_none : (n : ℕ) → size (λ i. false) n ≡ 0
 size_none zero = refl
 size_none (suc n) = omega (arith, size_none n)
-
-bit_small : (b : Bool) → bit b ≤ 1
-bit_small true = omega arith
-bit_small false = omega arith
 
 -- ---- lists ----
 

@@ -333,6 +333,22 @@ module _ (f t : ℕ) (good : SiteSet) where
   inv_run w [] run inv = inv
   inv_run w (moves i m ∷ ms) run inv = inv_run (next f t w i m) ms run.3 (inv_next w i m run.0 run.1 run.2 inv)
 
+  -- what a site's own moves and the statements of others keep holds of each rule-following site after a run
+  module _ (P : ℕ → Site → List Said → Type 0)
+      (own : (i : ℕ) (s : Site) (log : List Said) (m : Move) → Tests f t s m → Drafted good log (vouched f t s m) → P i s log → P i (step f t s m) (more (draft f t i s m) log))
+      (others : (k : ℕ) (s : Site) (log : List Said) (o : Option Said) → Of (λ y. who y ≡ k → ⊥) o → P k s log → P k s (more o log)) where
+    site_next : (w : World) (i : ℕ) (m : Move) → good i ≡ true → Tests f t (w.at i) m → Drafted good w.log (vouched f t (w.at i) m)
+        → ((k : ℕ) → good k ≡ true → P k (w.at k) w.log) → (k : ℕ) → good k ≡ true → P k ((next f t w i m).at k) (next f t w i m).log
+    site_next w i m g h v p k gk = elim (cases_eq k i) [
+      | inl q ↦ subst (λ (x : ℕ). P x ((next f t w i m).at x) (next f t w i m).log) (sym q) (rw (eq-eqb i i refl) (own i (w.at i) w.log m h v (p i g)))
+      | inr ne ↦ rw (ne_eqb k i ne) (others k (w.at k) w.log (draft f t i (w.at i) m) (draft_by (λ x. x ≡ k → ⊥) i (w.at i) m (λ q. ne (sym q))) (p k gk))
+    ]
+
+    pub site_run : (w : World) (ms : List Moved) → Run f t good w ms
+        → ((k : ℕ) → good k ≡ true → P k (w.at k) w.log) → (k : ℕ) → good k ≡ true → P k ((after f t w ms).at k) (after f t w ms).log
+    site_run w [] run p = p
+    site_run w (moves i m ∷ ms) run p = site_run (next f t w i m) ms run.3 (site_next w i m run.0 run.1 run.2 p)
+
   pub more_within : (o : Option Said) (log : List Said) → Within log (more o log)
   more_within None log x h = h
   more_within (Some y) log x h = before h
@@ -357,7 +373,7 @@ module _ (f t : ℕ) (good : SiteSet) where
   run_take (suc a) w [] run = tt
   run_take (suc a) w (moves i m ∷ ms) run = (run.0, run.1, run.2, run_take a (next f t w i m) ms run.3)
 
-  log_take : (a : ℕ) (w : World) (ms : List Moved) → Within (after f t w (take a ms)).log (after f t w ms).log
+  pub log_take : (a : ℕ) (w : World) (ms : List Moved) → Within (after f t w (take a ms)).log (after f t w ms).log
   log_take zero w ms x h = log_grows w ms x h
   log_take (suc a) w [] x h = h
   log_take (suc a) w (moves i m ∷ ms) x h = log_take a (next f t w i m) ms x h

@@ -9,3 +9,7 @@ pub mod Laws
 pub mod Verdict
 pub mod Examples
 pub mod OneFinding
+pub mod Led
+pub mod Prompt
+pub mod Lasting
+pub mod Chosen
