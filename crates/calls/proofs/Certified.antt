@@ -26,7 +26,7 @@ use Rattle.certificates.specs.Examining.{rising, prepare_of, votes_steps}
 use Rattle.records.specs.Sizes.{tag_row, certificate_size, sizes_of, covers}
 use Rattle.records.specs.Rows.{row_of}
 use Rattle.records.specs.Books.{Books, held, held_row, lent_sizes}
-use Rattle.records.specs.Kept.{Membership, Kept}
+use Rattle.records.specs.Kept.{Membership, Kept, fresh}
 use Rattle.calls.specs.Gathering.{members, joined, own_progress}
 use Rattle.calls.specs.Effects.{nothing, draft, message, Effect, own_head, own_claim, moved_to, holding, last_certificate, certificate_from, counting_prepare}
 use Rattle.calls.specs.Calls.{Request, to_propose, to_hear, to_leave, to_seal, to_judge, to_read, judging_call, read_call, leave_call, call, performed, asks, kept_after, books_after}
@@ -203,7 +203,7 @@ module _ (v : Vouched) (m : Membership) (round : ℕ) (k : Kept) (books : Books)
   abbrev Good : Effect → Type 0
   Good x = Inv v m round x.kept x.books
 
-  sound : Sound m k
+  pub sound : Sound m k
   sound = record { fleet = fleet; limit = limit; prepares = inv.prepares; commits = inv.commits; tags = inv.tags; views = inv.views }
 
   -- ---- a prepare that is heard ----
@@ -394,16 +394,18 @@ module _ (w : Vouched) (m : Membership) (round : ℕ) (fleet : legal_fleet m.f m
   abbrev Holds : Standing → Type 0
   Holds s = Inv w m round s.kept s.books
 
-  one_call : (s : Standing) (c : Called) → KeepsToCall w m s c → Holds s → Holds (after_call m s c)
+  pub one_call : (s : Standing) (c : Called) → KeepsToCall w m s c → Inv w m round s.kept s.books → Inv w m round (after_call m s c).kept (after_call m s c).books
   one_call s c keeps inv = result_keeps w m round s.kept s.books fleet limit inv (doing m s c) (λ x h. call_keeps w m round s.kept s.books fleet limit inv c.out c.request x (kept_done w m s c x keeps h))
 
   many_calls : (s : Standing) (cs : List Called) → KeepsToCalls w m s cs → Holds s → Holds (after_calls m s cs)
   many_calls s [] keeps inv = inv
   many_calls s (c ∷ cs) keeps inv = many_calls (after_call m s c) cs keeps.1 (one_call s c keeps.0 inv)
 
+  pub at_first : (books : Books) → Inv w m round (fresh round) books
+  at_first books = record { round_is = refl; prepares = refl; commits = refl; tags = refl; views = refl; tagged = λ j d e. empty 16 j d e; certificate = λ r e. let z : ◌≡◌ {A = ℕ} 0 1 = cc in absurd (omega arith) }
+
   pub always : (books : Books) (cs : List Called) → KeepsToCalls w m (opened round books) cs → Holds (standing m round books cs)
-  always books cs keeps =
-      many_calls (opened round books) cs keeps (record { round_is = refl; prepares = refl; commits = refl; tags = refl; views = refl; tagged = λ j d e. empty 16 j d e; certificate = λ r e. let z : ◌≡◌ {A = ℕ} 0 1 = cc in absurd (omega arith) })
+  always books cs keeps = many_calls (opened round books) cs keeps (at_first books)
 
 pub kept_certificate_is_good : KeptCertificateIsGood
 kept_certificate_is_good w m round books cs r fleet limit keeps e =

@@ -1,6 +1,6 @@
 -- The laws of the calls hold.
-use Rattle.std.proofs.Common.{◌≡◌, ◌≢◌, ℕ, ◌+◌, ◌<◌, ◌≤◌, leb, ◌⊎◌, ◌↔◌, Bool, true, false, cond, List, [], ◌∷◌, length, replicate, Some, None, Ok, Err, Option, Result, is_some, slice_index_or, sym, refl, ap, ◌∙◌, subst, inl, inr, arith}
-use Rattle.std.specs.Prelude.{zero, suc, ◌==◌, nat_le, nat_lt}
+use Rattle.std.proofs.Common.{◌≡◌, ◌≢◌, ℕ, ◌+◌, ◌<◌, ◌≤◌, leb, ◌⊎◌, ◌↔◌, Bool, true, false, cond, List, [], ◌∷◌, length, Some, None, Ok, Err, Option, Result, is_some, sym, refl, ap, ◌∙◌, subst, inl, inr, arith}
+use Rattle.std.specs.Prelude.{◌==◌, nat_le, nat_lt}
 use Rattle.std.proofs.lemmas.Bool.{false≢true, eq-eqb, ne_eqb, leb-true, le-leb}
 use Rattle.values.specs.Fleets.{sites, fast_quorum, recovery_quorum}
 use Rattle.values.specs.Refusals.{Refused, short, layout, wrong_view}
@@ -19,13 +19,15 @@ use Rattle.certificates.proofs.Laws.{steps_alike}
 use Rattle.records.specs.Rows.{with_prepare, with_commit}
 use Rattle.records.specs.Books.{Books}
 use Rattle.records.specs.Kept.{Membership, fast, recovery, Decided, Kept}
-use Rattle.calls.specs.Gathering.{is_gathered, members, own_progress}
+use Rattle.calls.specs.Gathering.{is_gathered, own_progress}
 use Rattle.calls.specs.Effects.{nothing, draft, output_bytes, drafted, wrote, heard, judged, noted, decided, Effect, settle, settling, choice, own_claim, holding, unchanged, moved_to, Answer, by_propose, by_hear, found, head_of}
 use Rattle.calls.specs.Calls.{Request, to_hear, to_leave, first, reading, call, hear_content, sealing_at, seal_call, judging_call, read_call, performed, kept_after, out_after, answer_of}
 use Rattle.calls.specs.Laws.{JudgesAndReads, judging_answer, DecidesAtQuorum, CommitsAtQuorum, told_bytes, AnswersWhatIsWritten, ProposalIsJudged, DecidesByQuorum, RefusedChangesNothing, AnswersToWhatIsAsked, DraftsBearTheOwnNumber, OnlyThese, LeaveDone, LeaveReports, FirstDecisionStays, DecidedIsAnswered, writing_answer, SealIsSealing, CallLaws}
 use Rattle.calls.proofs.Chosen.{verdict_chosen, proposes_in_turn, proposes_what_is_permitted}
 use Rattle.calls.proofs.Room.{written_fits, books_keep_length}
 use Rattle.calls.proofs.Certified.{kept_certificate_is_good, drafted_certificates_are_good}
+use Rattle.calls.proofs.Members.{none_of, blank}
+use Rattle.calls.proofs.Gathering.{gathered_are_good}
 use Rattle.calls.proofs.Others.{heard_by_others}
 use Rattle.calls.proofs.Passed.{nothing_else_is_refused}
 use Rattle.calls.proofs.Joined.{joined_is_read}
@@ -204,15 +206,6 @@ commits_at_quorum =
     }
 
 -- ---- leaving ----
-
-none_of : (p : ℕ → Bool) (low n : ℕ) → ((j : ℕ) → p j ≡ false) → members p low n ≡ []
-none_of p low zero h = refl
-none_of p low (suc n) h = rw (h low) (none_of p (suc low) n h)
-
-blank : {A : Type 0} (n j : ℕ) (a : A) → slice_index_or (replicate n a) j a ≡ a
-blank zero j a = refl
-blank (suc n) zero a = refl
-blank (suc n) (suc j) a = blank n j a
 
 pub leave_reports : LeaveReports
 leave_reports v m k books out view x h =
@@ -397,5 +390,6 @@ call_laws =
       judges = judges_and_reads;
       kept_certificate = kept_certificate_is_good;
       drafted_certificates = drafted_certificates_are_good;
+      gathered = gathered_are_good;
       heard = heard_by_others;
     }

@@ -14,6 +14,7 @@ pub mod Room
 pub mod Certified
 pub mod Passed
 pub mod Others
+pub mod Gathering
 pub mod Laws
 pub mod Examples
 pub mod Reports

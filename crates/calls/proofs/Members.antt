@@ -1,8 +1,9 @@
 -- Members of a range of numbers, and how many they are.
-use Rattle.std.proofs.Common.{◌≡◌, ◌≢◌, ℕ, zero, suc, ◌+◌, ◌≤◌, ◌<◌, ◌⊎◌, ◌↔◌, Bool, true, false, not, cond, List, [], ◌∷◌, length, sym, refl, ap, ap₂, ◌∙◌, subst, inl, inr, arith}
+use Rattle.std.proofs.Common.{◌≡◌, ◌≢◌, ℕ, zero, suc, ◌+◌, ◌≤◌, ◌<◌, ◌⊎◌, ◌↔◌, Bool, true, false, not, cond, List, [], ◌∷◌, length, replicate, slice_index_or, sym, refl, ap, ap₂, ◌∙◌, subst, inl, inr, arith}
 use Rattle.std.proofs.lemmas.Bool.{ltb-false, not-true, cases_eq, eq-eqb, ne_eqb}
 use Rattle.std.specs.Prelude.{nat_lt}
 use Rattle.agreement.specs.Sites.{SiteSet, size, listed}
+use Rattle.agreement.proofs.Count.{size_le}
 use Rattle.calls.specs.Gathering.{members}
 
 count_cond : (b : Bool) (x : ℕ) (xs : List ℕ) → length (cond b (x ∷ xs) xs) ≡ cond b 1 0 + length xs
@@ -46,6 +47,10 @@ size_plus P Q (suc n) i l a b h = elim (cases_eq i n) [
 
 pub members_plus : (p q : ℕ → Bool) (n i : ℕ) → i < n → p i ≡ false → q i ≡ true → ((j : ℕ) → j ≢ i → q j ≡ p j) → length (members q 0 n) ≡ length (members p 0 n) + 1
 members_plus p q n i l a b h = omega (arith, size_members p n, size_members q n, size_plus p q n i l a b h)
+
+-- if all that pass one test pass another, these are no fewer
+pub members_le : (p q : ℕ → Bool) (n : ℕ) → ((j : ℕ) → p j ≡ true → q j ≡ true) → length (members p 0 n) ≤ length (members q 0 n)
+members_le p q n h = omega (arith, size_members p n, size_members q n, size_le p q n (λ j l. h j))
 
 -- ---- who is listed ----
 
@@ -93,3 +98,14 @@ none_there n h = omega (arith, ltb-false 0 n (not-true (nat_lt 0 n) h))
 
 pub none_gathered : (n : ℕ) → n ≡ 0 → not (nat_lt 0 n) ≡ true
 none_gathered n e = rw e
+
+-- any of so many things that are all the same, and what is read behind them
+pub blank : {A : Type 0} (n j : ℕ) (a : A) → slice_index_or (replicate n a) j a ≡ a
+blank zero j a = refl
+blank (suc n) zero a = refl
+blank (suc n) (suc j) a = blank n j a
+
+-- where none passes, there are no members
+pub none_of : (p : ℕ → Bool) (low n : ℕ) → ((j : ℕ) → p j ≡ false) → members p low n ≡ []
+none_of p low zero h = refl
+none_of p low (suc n) h = rw (h low) (none_of p (suc low) n h)

@@ -38,7 +38,7 @@ use Rattle.wire.specs.declared.statement.ViewChange.{ViewChange}
 use Rattle.agreement.specs.Statements.{Each}
 use Rattle.calls.proofs.Reported.{sent_legal, always_reports}
 
-small_limit : (l : ℕ) → legal_limit l ≡ true → l < 2 ^ 32
+pub small_limit : (l : ℕ) → legal_limit l ≡ true → l < 2 ^ 32
 small_limit l h =
     let p = and_parts (leb 4 l) (leb l 2048) (and_parts (leb 4 l && leb l 2048) (eqb (l % 4) 0) h).0 in
     omega (arith, leb-true l 2048 p.1)

@@ -1,11 +1,11 @@
 -- Calls whose tests are all passed are not refused.
-use Rattle.std.proofs.Common.{◌≡◌, ℕ, ◌+◌, ◌<◌, Bool, true, false, cond, not, ◌&&◌, leb, ltb, eqb, List, [], ◌∷◌, ◌++◌, length, None, Ok, Err, Option, Result, slice_index, refl, ap, ◌∙◌, inl, inr, arith}
+use Rattle.std.proofs.Common.{◌≡◌, ℕ, ◌+◌, ◌<◌, Bool, true, false, cond, not, ◌&&◌, ◌⊎◌, leb, ltb, eqb, List, [], ◌∷◌, ◌++◌, length, None, Ok, Err, Option, Result, slice_index, refl, ap, ◌∙◌, inl, inr, arith}
 use Rattle.std.specs.Prelude.{◌==◌, nat_lt}
 use Rattle.std.proofs.lemmas.Bool.{cases_Bool, and_from, or_left, or_right, eq-eqb, ne_eqb, le-leb, lt-ltb}
 use Rattle.values.specs.declared.fix.Value.{Value}
 use Rattle.values.specs.Fleets.{sites, progress_quorum, leader_of}
 use Rattle.values.specs.Fixes.{fix_of, legal}
-use Rattle.values.specs.Refusals.{Refused, short, not_higher, repeated, not_forced, gathered_already}
+use Rattle.values.specs.Refusals.{Refused, short, not_higher, repeated, not_forced, gathered_already, conflicting}
 use Rattle.verdicts.specs.Rule.{finding}
 use Rattle.wire.specs.declared.words.Malformed.{Malformed}
 use Rattle.wire.specs.declared.statement.Claim.{Claim}
@@ -16,8 +16,8 @@ use Rattle.wire.specs.Layout.{message_of}
 use Rattle.checks.specs.Vouching.{Vouched}
 use Rattle.certificates.specs.Steps.{Step, test, passed, blamed, answering}
 use Rattle.certificates.specs.Faults.{at_depth, in_message, failing}
-use Rattle.certificates.specs.Examining.{certificate_steps, certified_steps, claim_steps, change_steps, behind_tag, entries_needed}
-use Rattle.certificates.specs.Judging.{Call, outcome, reports_of, verdict_call}
+use Rattle.certificates.specs.Examining.{certificate_steps, certified_steps, claim_steps, change_steps, behind_tag, entries_needed, progress_steps}
+use Rattle.certificates.specs.Judging.{Call, outcome, reports_of, conflicts, verdict_call}
 use Rattle.certificates.proofs.Passing.{next, passed_append, passed_blamed}
 use Rattle.records.specs.Rows.{row_of}
 use Rattle.records.specs.Books.{Books, lent_sizes}
@@ -26,7 +26,7 @@ use Rattle.calls.proofs.Members.{none_gathered}
 use Rattle.calls.specs.Gathering.{is_gathered, gathered, turns_read}
 use Rattle.calls.specs.Steps.{permits, row_steps, is_of, room_steps, leads, due, propose_steps, expected, leave_steps, hear_propose_steps, hear_prepare_steps, hear_commit_steps, hear_new_view_steps, claim_heard, change_heard}
 use Rattle.calls.specs.Effects.{Effect, wrote, unchanged, leaving}
-use Rattle.calls.specs.Calls.{to_propose, to_hear, to_leave, first, reading, propose_gathered, propose_call, hear_content, hear_call, leave_call}
+use Rattle.calls.specs.Calls.{to_propose, to_hear, to_leave, first, reading, propose_gathered, propose_call, hear_content, hear_call, leave_call, performed}
 use Rattle.calls.specs.Laws.{Done, Room, GoodClaim, NothingElseIsRefused}
 
 module _ (v : Vouched) where
@@ -34,12 +34,16 @@ module _ (v : Vouched) where
   pub append_made : {F : Type 0} (xs ys : List (Step F)) → passed v xs ≡ Ok (tt {0}) → passed v ys ≡ Ok (tt {0}) → passed v (xs ++ ys) ≡ Ok (tt {0})
   append_made xs ys a b = passed_append v xs ys ∙ ap (λ r. next r (passed v ys)) a ∙ b
 
-  blamed_made : {E F : Type 0} (g : E → F) (xs : List (Step E)) → passed v xs ≡ Ok (tt {0}) → passed v (blamed g xs) ≡ Ok (tt {0})
+  pub blamed_made : {E F : Type 0} (g : E → F) (xs : List (Step E)) → passed v xs ≡ Ok (tt {0}) → passed v (blamed g xs) ≡ Ok (tt {0})
   blamed_made g xs h = passed_blamed g v xs ∙ ap (failing g) h
 
   -- a call whose steps are all passed
   made : (c : Call Effect) → passed v c.steps ≡ Ok (tt {0}) → outcome v c ≡ Ok c.answer
   made c h = ap (λ (r : Result (Unit {0}) Refused). answering r c.answer) h
+
+  -- steps that are passed leave what comes behind them
+  first_made : (steps : List (Step Refused)) (c : Call Effect) → passed v steps ≡ Ok (tt {0}) → outcome v (first steps c) ≡ outcome v c
+  first_made steps c h = ap (λ (r : Result (Unit {0}) Refused). answering r c.answer) (passed_append v steps c.steps ∙ ap (λ r. next r (passed v c.steps)) h)
 
   read_made : {A : Type 0} (no_answer : Effect) (r : Result A Malformed) (next : A → Call Effect) (x : A) → r ≡ Ok x → passed v (next x).steps ≡ Ok (tt {0}) → passed v (reading no_answer r next).steps ≡ Ok (tt {0})
   read_made no_answer r next x e h = ap (λ q. passed v (reading no_answer q next).steps) e ∙ h
@@ -76,17 +80,33 @@ module _ (v : Vouched) where
           or_right (eqb k.view 1) (leb (progress_quorum m.f m.t) (length (gathered m k))) (le-leb (progress_quorum m.f m.t) (length (gathered m k)) (omega arith))
     ]
 
-    propose_made : (d : Value) (xs : List Turn) → m.own ≡ leader_of (sites m.f m.t) k.view → k.proposed ≡ false → length (gathered m k) ≡ entries_needed m.f m.t k.view → legal (fix_of d) ≡ true
-        → turns_read m k books.views 4 (gathered m k) ≡ Ok xs → passed v (verdict_call m.f m.t k.round k.view 0 xs).steps ≡ Ok (tt {0}) → Done v m k books out (to_propose d)
-    unfolding propose_call propose_steps hear_propose_steps hear_prepare_steps hear_commit_steps hear_new_view_steps claim_heard change_heard
-    propose_made d xs own new enough fix read good =
-        let rest = reading (unchanged m k books (wrote 0)) (turns_read m k books.views 4 (gathered m k)) (propose_gathered m k books d) in
-        let may : (leads m k && not k.proposed && due m k) ≡ true =
-        and_from (leads m k && not k.proposed) (due m k) (and_from (leads m k) (not k.proposed) (eq-eqb m.own (leader_of (sites m.f m.t) k.view) own) (ap not new)) (due_made enough) in
-        let own_steps : passed v (propose_steps m k d) ≡ Ok (tt {0}) = rw (fix, may) refl in
-        let last = append_made (propose_steps m k d) rest.steps own_steps (read_made (unchanged m k books (wrote 0)) (turns_read m k books.views 4 (gathered m k)) (propose_gathered m k books d) xs read good) in
-        let steps = first (propose_steps m k d) rest in
-        (rest.answer, made (first (room_steps m (lent_sizes books out)) steps) (append_made (room_steps m (lent_sizes books out)) steps.steps room_made last))
+    -- a site that may propose answers what judging its new-views comes to
+    module _ (d : Value) (xs : List Turn) (own : m.own ≡ leader_of (sites m.f m.t) k.view) (new : k.proposed ≡ false) (enough : length (gathered m k) ≡ entries_needed m.f m.t k.view) (fix : legal (fix_of d) ≡ true)
+        (read : turns_read m k books.views 4 (gathered m k) ≡ Ok xs) where
+      pub propose_judged : performed v m k books out (to_propose d) ≡ outcome v (propose_gathered m k books d xs)
+      unfolding propose_call propose_steps
+      propose_judged =
+          let rest = reading (unchanged m k books (wrote 0)) (turns_read m k books.views 4 (gathered m k)) (propose_gathered m k books d) in
+          let may : (leads m k && not k.proposed && due m k) ≡ true =
+          and_from (leads m k && not k.proposed) (due m k) (and_from (leads m k) (not k.proposed) (eq-eqb m.own (leader_of (sites m.f m.t) k.view) own) (ap not new)) (due_made enough) in
+          first_made (room_steps m (lent_sizes books out)) (first (propose_steps m k d) rest) room_made
+          ∙ first_made (propose_steps m k d) rest (rw (fix, may) refl)
+          ∙ ap (λ q. outcome v (reading (unchanged m k books (wrote 0)) q (propose_gathered m k books d))) read
+
+      propose_made : passed v (verdict_call m.f m.t k.round k.view 0 xs).steps ≡ Ok (tt {0}) → Done v m k books out (to_propose d)
+      propose_made good = ((propose_gathered m k books d xs).answer, propose_judged ∙ made (propose_gathered m k books d xs) good)
+
+      -- which is done, or is a conflict, if they are a good certificate
+      pub propose_or_conflict : passed v (progress_steps m.f m.t k.round k.view 0 xs) ≡ Ok (tt {0}) → Done v m k books out (to_propose d) ⊎ (performed v m k books out (to_propose d) ≡ Err conflicting)
+      propose_or_conflict good =
+          let b = conflicts (finding m.f m.t (reports_of xs)) in
+          let judges = progress_steps m.f m.t k.round k.view 0 xs in
+          let last : List (Step Refused) = test (not b) conflicting ∷ [] in
+          let all : passed v (judges ++ last) ≡ cond (not b) (Ok tt) (Err conflicting) = passed_append v judges last ∙ ap (λ r. next r (passed v last)) good in
+          elim (cases_Bool b) [
+            | inl bad ↦ inr (propose_judged ∙ ap (λ r. answering r (propose_gathered m k books d xs).answer) (all ∙ ap (λ z. cond (not z) (Ok tt) (Err conflicting)) bad))
+            | inr fine ↦ inl (propose_made (all ∙ ap (λ z. cond (not z) (Ok tt) (Err conflicting)) fine))
+          ]
 
 row_made : (v : Vouched) (o : Option Value) (d : Value) → o ≡ None → passed v (row_steps o d) ≡ Ok (tt {0})
 row_made v o d h = rw h refl

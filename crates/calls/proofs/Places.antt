@@ -54,6 +54,10 @@ module _ (f t round : ℕ) where
   certified_place p q None = refl
   certified_place p q (Some c) = ap (λ (zs : List (Step (Unit {0}))). test (length c.votes == recovery_quorum f t) tt ∷ zs) (votes_place c.report 0 (p + 4) (q + 4) c.votes)
 
+  -- the certificate of a reported commit that passes at a place passes at any
+  pub certified_anywhere : (v : Vouched) (p q : ℕ) (o : Option Certified) → passed v (certified_steps f t round p o) ≡ Ok (tt {0}) → passed v (certified_steps f t round q o) ≡ Ok (tt {0})
+  certified_anywhere v p q o h = passed_alike v (certified_steps f t round p o) (certified_steps f t round q o) (certified_place p q o) h
+
   module _ (view : ℕ) where
     entry_place : (low p q : ℕ) (x : Turn) → plain (entry_steps f t round view low p x) ≡ plain (entry_steps f t round view low q x)
     entry_place low p q x = split p ∙ ap₂ ◌++◌ (change_parts round view (rising (sites f t) low x.head.site) p q x.head x.prepared (change_of x).committed x.tag) (certified_place (behind_tag p x) (behind_tag q x) x.committed) ∙ sym (split q)

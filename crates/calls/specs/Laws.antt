@@ -20,7 +20,7 @@ use Rattle.checks.specs.Vouching.{Vouched}
 use Rattle.agreement.specs.Sites.{listed}
 use Rattle.agreement.specs.Statements.{Each}
 use Rattle.certificates.specs.Steps.{Question, granted, passed}
-use Rattle.certificates.specs.Examining.{change_steps, certificate_steps, certified_steps, behind_tag, entries_needed}
+use Rattle.certificates.specs.Examining.{change_steps, certificate_steps, certified_steps, behind_tag, entries_needed, progress_steps}
 use Rattle.certificates.specs.Judging.{reports_of, verdict_call, judging}
 use Rattle.records.specs.Rows.{row_of}
 use Rattle.records.specs.Sizes.{tag_row, certificate_size, view_row, sizes_of, covers}
@@ -486,6 +486,16 @@ pub record DraftedCertificatesAreGood : Type 0 where
       → doing m (standing m round books cs) last ≡ Ok x → x.output ≡ draft (NewView c) attached
       → GoodReport w m round c.committed attached
 
+-- the new-views that a site holds, once they are a progress quorum: they can be read, and are a good progress certificate, by any
+-- check that keeps to every yes so far
+abbrev pub GatheredAreGood : Type 0
+GatheredAreGood =
+    (w : Vouched) (m : Membership) (round : ℕ) (books : Books) (cs : List Called) → legal_fleet m.f m.t ≡ true → legal_limit m.limit ≡ true
+    → Each (λ (a : Called). OfBytes a.request) cs → KeepsToCalls w m (opened round books) cs
+    → length (gathered m (standing m round books cs).kept) ≡ progress_quorum m.f m.t
+    → (xs : List Turn) × (turns_read m (standing m round books cs).kept (standing m round books cs).books.views 4 (gathered m (standing m round books cs).kept) ≡ Ok xs)
+    × ((place : ℕ) → passed w (progress_steps m.f m.t round (standing m round books cs).kept.view place xs) ≡ Ok (tt {0}))
+
 -- ---- what is heard by others ----
 
 -- what a site drafts is heard by every other site of the fleet that is in the same round and view, has room and no such message
@@ -554,4 +564,5 @@ pub record CallLaws : Type 0 where
   pub judges : JudgesAndReads
   pub kept_certificate : KeptCertificateIsGood
   pub drafted_certificates : DraftedCertificatesAreGood
+  pub gathered : GatheredAreGood
   pub heard : HeardByOthers
