@@ -19,7 +19,7 @@ use Rattle.calls.specs.Effects.{Answer, judged, found, Effect}
 use Rattle.calls.specs.Calls.{Request, to_judge, to_read, performed, asks, answer_of}
 use Rattle.calls.specs.Laws.{judging_answer}
 use Rattle.calls.proofs.Laws.{judges_and_reads}
-use Rattle.runs.specs.Runs.{Site, World, Event, result, after, Comes, Run}
+use Rattle.runs.specs.Runs.{Behaviour, by_the_rules, Site, World, Event, result, after, Comes, Run}
 use Rattle.runs.specs.Laws.{AsksInForm}
 use Rattle.runs.specs.Promises.{Reads, DecisionsAgree, LaterCertificatesForce, NeverConflict}
 use Rattle.runs.proofs.Abstract.{decided_report}
@@ -32,12 +32,14 @@ same_found : {a b : Option Decided} → ◌≡◌ {A = Result Answer Refused} (O
 same_found e = cc
 
 -- read gives what the record holds
-read_decision : (w : World) (i : ℕ) (x : Decided) → Reads w i x → (w i).kept.decision ≡ Some x
-read_decision w i x h =
+read_decision : (w : World) (i : ℕ) (x : Decided) → (w i).behaviour ≡ by_the_rules → Reads w i x → (w i).kept.decision ≡ Some x
+read_decision w i x behaves h =
     let e = h.0 in
     let s = w e.site in
     let read : answer_of (performed e.check s.member s.kept s.books (length e.out) to_read) ≡ Ok (found (Some x)) =
-    subst (λ (r : Request). answer_of (performed e.check s.member s.kept s.books (length e.out) r) ≡ Ok (found (Some x))) h.2 h.3 in
+    subst (λ (r : Request). answer_of (performed e.check s.member s.kept s.books (length e.out) r) ≡ Ok (found (Some x))) h.2
+    (subst (λ (b : Behaviour). answer_of (b.performs e.check s.member s.kept s.books (length e.out) e.request) ≡ Ok (found (Some x)))
+    (ap (λ (n : ℕ). (w n).behaviour) h.1 ∙ behaves) h.3) in
     subst (λ (n : ℕ). (w n).kept.decision ≡ Some x) h.1 (same_found (sym (judges_and_reads.reads e.check s.member s.kept s.books (length e.out)) ∙ read))
 
 module _ (f t limit round : ℕ) (good : SiteSet) (w : World) (es : List Event) (run : Run f t limit round good w es) where
@@ -52,7 +54,7 @@ module _ (f t limit round : ℕ) (good : SiteSet) (w : World) (es : List Event) 
   pub decision_there : (a i : ℕ) (x : Decided) → good i ≡ true → Reads (after w (take a es)) i x → ((moves.world_at f t made a).at i).decision ≡ Some x.report
   decision_there a i x g h =
       let follows = (as_moves f t limit round good w es run).follows a in
-      ap (λ (s : moves.Site). s.decision) (follows.alike i g) ∙ ap decided_report (read_decision (after w (take a es)) i x h)
+      ap (λ (s : moves.Site). s.decision) (follows.alike i g) ∙ ap decided_report (read_decision (after w (take a es)) i x (follows.stands i g).behaves h)
 
   -- the sites behind calls that the run begins with
   pub behind : (past rest : List Event) → es ≡ past ++ rest → Follows f t limit round good w es run past (moves.world_at f t made (length past))

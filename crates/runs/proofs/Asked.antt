@@ -37,7 +37,7 @@ use Rattle.calls.specs.Effects.{head_of, Effect, wrote, unchanged}
 use Rattle.calls.specs.Calls.{Request, to_propose, to_hear, to_leave, to_seal, to_judge, to_read, reading, propose_gathered, propose_call, hear_content, hear_call, leave_call, sealing_at, seal_call, call}
 use Rattle.calls.proofs.Joined.{turns_are}
 use Rattle.calls.proofs.Filling.{few_sites, leader_inside}
-use Rattle.runs.specs.Runs.{World, Event, questions, OfWords}
+use Rattle.runs.specs.Runs.{Behaviour, by_the_rules, World, Event, questions, OfWords}
 use Rattle.runs.specs.Laws.{InForm}
 
 module _ (v : Vouched) (P : Question → Type 0) where
@@ -329,9 +329,11 @@ module _ (v : Vouched) (m : Membership) (k : Kept) (few : sites m.f m.t ≤ 16) 
     call_fine to_read views words = tt
 
 -- what a call asks is in form
-pub asked_in_form : (w : World) (e : Event) → legal_fleet (w e.site).member.f (w e.site).member.t ≡ true → (w e.site).kept.round < 2 ^ 32 → (w e.site).kept.view < 2 ^ 32
+pub asked_in_form : (w : World) (e : Event) → (w e.site).behaviour ≡ by_the_rules → legal_fleet (w e.site).member.f (w e.site).member.t ≡ true → (w e.site).kept.round < 2 ^ 32 → (w e.site).kept.view < 2 ^ 32
     → Bytes (w e.site).books.views → OfWords e.request
     → Each (InForm (sites (w e.site).member.f (w e.site).member.t) (w e.site).kept.round) (questions w e)
-asked_in_form w e fleet round view books words =
+asked_in_form w e behaves fleet round view books words =
+    let s = w e.site in
+    subst (λ (b : Behaviour). Each (InForm (sites s.member.f s.member.t) s.kept.round) (b.asks e.check s.member s.kept s.books (length e.out) e.request)) (sym behaves)
     let s = w e.site in
     call_fine e.check s.member s.kept (few_sites s.member.f s.member.t fleet) round view s.books (length e.out) e.request books words

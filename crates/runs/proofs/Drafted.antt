@@ -1,5 +1,5 @@
 -- The draft that a call leaves in out is the one that it is defined to write.
-use Rattle.std.proofs.Common.{◌≡◌, ℕ, Bool, true, false, cond, List, ◌++◌, length, take, Ok, refl, sym, ◌∙◌}
+use Rattle.std.proofs.Common.{◌≡◌, ℕ, Bool, true, false, cond, List, ◌++◌, length, take, Ok, refl, sym, ◌∙◌, subst}
 use Rattle.std.proofs.lemmas.List.{take_at}
 use Rattle.std.specs.Prelude.{◌==◌, drop}
 use Rattle.values.specs.Fleets.{recovery_quorum}
@@ -14,7 +14,7 @@ use Rattle.calls.specs.Effects.{nothing, draft, output_bytes, Effect, holding}
 use Rattle.calls.specs.Calls.{Request, hear_content, performed}
 use Rattle.calls.specs.Laws.{told_bytes}
 use Rattle.calls.proofs.Done.{every}
-use Rattle.runs.specs.Runs.{drafting}
+use Rattle.runs.specs.Runs.{Behaviour, drafting}
 use Rattle.runs.specs.Laws.{draft_of, DraftIsInOut, OneStatement}
 
 -- what stands in out is the draft
@@ -47,9 +47,10 @@ leaves v m k books out =
     (λ rest. refl)
 
 pub draft_is_in_out : DraftIsInOut
-draft_is_in_out w e x h =
+draft_is_in_out w e x behaves h =
     let s = w e.site in
-    rw h (leaves e.check s.member s.kept s.books (length e.out) e.request x h (drop (length (output_bytes x.output)) e.out))
+    let done = subst (λ (b : Behaviour). b.performs e.check s.member s.kept s.books (length e.out) e.request ≡ Ok x) behaves h in
+    rw h (leaves e.check s.member s.kept s.books (length e.out) e.request x done (drop (length (output_bytes x.output)) e.out))
 
 pub one_statement : OneStatement
 one_statement w e s s' fits fits' d d' = fronts_apart s s' d.0 d'.0 fits fits' (sym d.1 ∙ d'.1)

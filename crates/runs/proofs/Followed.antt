@@ -1,6 +1,6 @@
 -- A run of calls is a run of moves: each call of a rule-following site is one move of the rules, a refused call one that changes
 -- nothing.
-use Rattle.std.proofs.Common.{◌≡◌, ℕ, zero, suc, ◌^◌, ◌<◌, true, List, [], ◌∷◌, ◌++◌, length, take, Some, Ok, Err, Option, Result, refl, sym, ap, ◌∙◌, subst, inl, inr, append_assoc, append-nil}
+use Rattle.std.proofs.Common.{◌≡◌, ℕ, zero, suc, ◌^◌, ◌<◌, true, List, [], ◌∷◌, ◌++◌, length, take, Some, None, Ok, Err, Option, Result, refl, sym, ap, ◌∙◌, subst, ◌⊎◌, inl, inr, arith, append_assoc, append-nil}
 use Rattle.std.proofs.lemmas.Bool.{eq-eqb, ne_eqb, cases_eq}
 use Rattle.values.specs.Fleets.{sites, legal_fleet}
 use Rattle.values.specs.Refusals.{Refused}
@@ -8,24 +8,89 @@ use Rattle.wire.specs.declared.statement.Statement.{Statement}
 use Rattle.wire.specs.Contents.{statement_bytes}
 use Rattle.packets.specs.Fits.{StatementFits}
 use Rattle.agreement.specs.Sites.{SiteSet}
-use Rattle.agreement.specs.Statements.{Said, In, newest, Each, Drafted}
+use Rattle.agreement.specs.Statements.{Said, who, In, newest, Each, Of, Drafted}
 use Rattle.agreement.specs.Moves.{Move, other, Moved, moves, start, Tests, vouched, step, more}
 use Rattle.agreement.specs.Moves as moves
 use Rattle.agreement.proofs.Agree.{each_map, each_both}
-use Rattle.agreement.proofs.Keep.{more_within}
+use Rattle.agreement.proofs.Grow.{split}
+use Rattle.agreement.proofs.Keep.{nothing as no_log, draft_by, more_within}
 use Rattle.certificates.specs.Steps.{Question, granted}
 use Rattle.certificates.specs.Runs.{said_of, Meant}
 use Rattle.records.specs.Kept.{Membership}
-use Rattle.calls.specs.Effects.{Effect}
+use Rattle.calls.specs.Effects.{draft, Effect}
 use Rattle.calls.specs.Calls.{kept_after}
 use Rattle.runs.specs.Runs.{Site, World, Event, result, questions, Drafts, left, next, after, Comes, HasDrafted, OfWords, Run}
 use Rattle.runs.specs.Laws.{InForm}
 use Rattle.runs.proofs.Drafted.{draft_is_in_out}
 use Rattle.runs.proofs.Asked.{asked_in_form}
 use Rattle.runs.proofs.Abstract.{abstract_of, abstract_fresh}
-use Rattle.runs.proofs.Moves.{moves_to, empty_front}
+use Rattle.runs.proofs.Moves.{moves_to, empty_front, DraftedAs, begins_as}
 use Rattle.runs.proofs.Standing.{member, Stands, result_as, questions_as, stands_next, opens}
-use Rattle.runs.proofs.Lists.{after_append, each_of, comes_nowhere, comes_more}
+use Rattle.runs.proofs.Lists.{after_append, each_of, comes_further, comes_nowhere, comes_more}
+
+-- ---- where what is drafted comes from ----
+
+module _ (w : World) where
+  -- among these calls is one that drafts x, at the site whose number x bears
+  pub record Origin (past : List Event) (x : Said) : Type 0 where
+    pub before : List Event
+    pub call : Event
+    pub comes : Comes past before call
+    pub by : call.site ≡ who x
+    pub effect : Effect
+    pub done : result (after w before) call ≡ Ok effect
+    pub said : Statement
+    pub attached : List ℕ
+    pub output : effect.output ≡ draft said attached
+    pub fits : StatementFits said
+    pub is : said_of said ≡ x
+
+  -- it is there among more calls
+  origin_further : (past more : List Event) (x : Said) → Origin past x → Origin (past ++ more) x
+  origin_further past more x o =
+      record {
+        before = o.before;
+        call = o.call;
+        comes = comes_further past o.before more o.call o.comes;
+        by = o.by;
+        effect = o.effect;
+        done = o.done;
+        said = o.said;
+        attached = o.attached;
+        output = o.output;
+        fits = o.fits;
+        is = o.is;
+      }
+
+  -- what the last call drafts
+  last_origin : (past : List Event) (e : Event) (x : Effect) (o : Option Said) (y : Said) → result (after w past) e ≡ Ok x → DraftedAs x.output o → Of (λ z. who z ≡ e.site) o → o ≡ Some y
+      → Origin (past ++ (e ∷ [])) y
+  last_origin past e x o y h d own is = made (subst (DraftedAs x.output) is d) (subst (Of (λ (z : Said). who z ≡ e.site)) is own)
+    where
+      made : DraftedAs x.output (Some y) → who y ≡ e.site → Origin (past ++ (e ∷ [])) y
+      made p q =
+          record {
+            before = past;
+            call = e;
+            comes = ([], refl);
+            by = sym q;
+            effect = x;
+            done = h;
+            said = p.0;
+            attached = p.1;
+            output = p.2;
+            fits = p.3;
+            is = p.4;
+          }
+
+in_more : (o : Option Said) (log : List Said) (x : Said) → In x (more o log) → (o ≡ Some x) ⊎ In x log
+in_more None log x h = inr h
+in_more (Some y) log x h = elim (split h) [ inl p ↦ inl (ap Some (sym p)) | inr q ↦ inr q ]
+
+not_some : {P : Type 0} (x : Said) → ◌≡◌ {A = Option Said} None (Some x) → P
+not_some x e = absurd (let z : ◌≡◌ {A = ℕ} 0 1 = cc in omega arith)
+
+-- ---- one call ----
 
 module _ (f t limit round : ℕ) (good : SiteSet) (w : World) (es : List Event) (run : Run f t limit round good w es) where
   -- the sites behind the calls past, and the rules' sites at that moment
@@ -33,6 +98,7 @@ module _ (f t limit round : ℕ) (good : SiteSet) (w : World) (es : List Event) 
     pub stands : (i : ℕ) → good i ≡ true → Stands f t limit round i (after w past i)
     pub alike : (i : ℕ) → good i ≡ true → a.at i ≡ abstract_of (after w past i).kept
     pub log : (i : ℕ) (s : Statement) → StatementFits s → HasDrafted w past i (statement_bytes s) → In (said_of s) a.log
+    pub drafted : (x : Said) → In x a.log → Origin w past x
 
   good_at : (past : List Event) (e : Event) → Comes es past e → good e.site ≡ true
   good_at past e c = each_of (λ (x : Event). good x.site ≡ true) es past e c run.theirs
@@ -60,7 +126,7 @@ module _ (f t limit round : ℕ) (good : SiteSet) (w : World) (es : List Event) 
         let low : s.kept.round < 2 ^ 32 = subst (λ (n : ℕ). n < 2 ^ 32) (sym standing.round_is) run.round_is in
         subst (λ (n : ℕ). Each (InForm (sites f t) n) (questions world e)) standing.round_is
         (subst (λ (m : Membership). Each (InForm (sites m.f m.t) s.kept.round) (questions world e)) standing.member_is
-        (asked_in_form world e legal low standing.view_low standing.views (words_at past e c)))
+        (asked_in_form world e standing.behaves legal low standing.view_low standing.views (words_at past e c)))
 
     -- what a yes of the call stood for
     pub meant : Meant good a.log e.check (questions world e)
@@ -78,6 +144,7 @@ module _ (f t limit round : ℕ) (good : SiteSet) (w : World) (es : List Event) 
       vouched_for : Drafted good a.log (vouched f t (a.at i) move)
       steps : abstract_of (kept_after s.kept r) ≡ step f t (a.at i) move
       drafts : (x : Statement) → StatementFits x → Drafts world e (statement_bytes x) → moves.draft f t i (a.at i) move ≡ Some (said_of x)
+      drafted : (x : Said) → moves.draft f t i (a.at i) move ≡ Some x → Origin w (past ++ (e ∷ [])) x
 
     one_move : OneMove (result world e)
     one_move = by_result (result world e) refl
@@ -93,6 +160,7 @@ module _ (f t limit round : ℕ) (good : SiteSet) (w : World) (es : List Event) 
               vouched_for = tt;
               steps = sym alike;
               drafts = λ y fits d. empty_front y d.0 (sym (rw h) ∙ d.1);
+              drafted = λ y q. not_some y q;
             }
         by_result (Ok x) h =
             let m = member f t limit round i in
@@ -105,7 +173,9 @@ module _ (f t limit round : ℕ) (good : SiteSet) (w : World) (es : List Event) 
               tests = rw alike g.tests;
               vouched_for = rw alike g.vouched_for;
               steps = rw alike g.steps;
-              drafts = λ y fits d. rw alike (g.drafts y d.0 fits (sym (draft_is_in_out world e x h) ∙ d.1));
+              drafts = λ y fits d. rw alike (begins_as x.output (moves.draft f t i (abstract_of s.kept) g.move) g.drafts y d.0 fits (sym (draft_is_in_out world e x standing.behaves h) ∙ d.1));
+              drafted = λ y q. last_origin w past e x (moves.draft f t i (abstract_of s.kept) g.move) y h g.drafts
+                  (draft_by f t good (λ (k : ℕ). k ≡ i) i (abstract_of s.kept) g.move refl) (ap (λ (z : moves.Site). moves.draft f t i z g.move) (sym alike) ∙ q);
             }
 
     -- the sites behind it
@@ -135,6 +205,10 @@ module _ (f t limit round : ℕ) (good : SiteSet) (w : World) (es : List Event) 
                 let here : Drafts world e (statement_bytes x) = subst (λ (z : Event). Drafts world z (statement_bytes x)) q.1 (subst (λ (z : List Event). Drafts (after w z) h.1 (statement_bytes x)) q.0 h.4) in
                 subst (λ (o : Option Said). In (said_of x) (more o a.log)) (sym (m.drafts x fits here)) newest
             | inr old ↦ more_within f t good (moves.draft f t i (a.at i) m.move) a.log (said_of x) (now.log k x fits (h.0, h.1, old, h.3, h.4))
+          ];
+          drafted = λ x h. elim (in_more (moves.draft f t i (a.at i) m.move) a.log x h) [
+            | inl q ↦ m.drafted x q
+            | inr old ↦ origin_further w past (e ∷ []) x (now.drafted x old)
           ];
         }
 
@@ -174,9 +248,10 @@ module _ (f t limit round : ℕ) (good : SiteSet) (w : World) (es : List Event) 
   follows_start : Follows [] start
   follows_start =
       record {
-        stands = λ i g. (opens f t limit round i (w i) (run.opened i g) (run.books i g).2).0;
-        alike = λ i g. sym (ap abstract_of (opens f t limit round i (w i) (run.opened i g) (run.books i g).2).1 ∙ abstract_fresh round);
+        stands = λ i g. (opens f t limit round i (w i) (run.behave i g) (run.opened i g) (run.books i g).2).0;
+        alike = λ i g. sym (ap abstract_of (opens f t limit round i (w i) (run.behave i g) (run.opened i g) (run.books i g).2).1 ∙ abstract_fresh round);
         log = λ i x fits h. absurd (comes_nowhere h.0 h.1 h.2);
+        drafted = λ x h. absurd (no_log h);
       }
 
   pub as_moves : Followed [] es start

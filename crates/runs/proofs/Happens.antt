@@ -1,5 +1,5 @@
 -- The run happens: each call is computed.
-use Rattle.std.proofs.Common.{◌≡◌, ℕ, zero, suc, ◌≤◌, true, List, [], ◌∷◌, ◌++◌, take, drop, Ok, refl, subst, arith}
+use Rattle.std.proofs.Common.{◌≡◌, ℕ, zero, suc, true, List, [], ◌∷◌, ◌++◌, take, drop, Ok, refl, subst, arith}
 use Rattle.std.specs.Prelude.{nat_lt, Some, None}
 use Rattle.std.specs.List.{list_all}
 use Rattle.std.proofs.lemmas.Bool.{and_parts, ltb-true}
@@ -79,15 +79,19 @@ computed =
 
 -- ---- the premises ----
 
-no_other : (i : ℕ) → 4 ≤ i → all_but_0 i ≡ true → ⊥
-no_other i far h = let a = ltb-true i 4 (and_parts (nat_lt 0 i) (nat_lt i 4) h).1 in omega arith
+-- the four sites are opened, also those that are not site 0
+pub among_four : (i : ℕ) → nat_lt i 4 ≡ true → opening 1 0 i 4 9 ≡ Ok ((opened_world i).member, (opened_world i).kept)
+among_four zero h = refl
+among_four (suc zero) h = refl
+among_four (suc (suc zero)) h = refl
+among_four (suc (suc (suc zero))) h = refl
+among_four (suc (suc (suc (suc i)))) h = absurd (let a = ltb-true (suc (suc (suc (suc i)))) 4 h in omega (arith, a))
+
+pub not_0 : (i : ℕ) → all_but_0 i ≡ true → nat_lt i 4 ≡ true
+not_0 i h = (and_parts (nat_lt 0 i) (nat_lt i 4) h).1
 
 pub among_three : (i : ℕ) → all_but_0 i ≡ true → opening 1 0 i 4 9 ≡ Ok ((opened_world i).member, (opened_world i).kept)
-among_three zero h = absurd (let z : ◌≡◌ {A = ℕ} 0 1 = cc in omega arith)
-among_three (suc zero) h = refl
-among_three (suc (suc zero)) h = refl
-among_three (suc (suc (suc zero))) h = refl
-among_three (suc (suc (suc (suc i)))) h = absurd (no_other (suc (suc (suc (suc i)))) (omega arith) h)
+among_three i h = among_four i (not_0 i h)
 
 pub zeros_so : BooksOfBytes zeros
 zeros_so = (bytes_passed zeros.tags refl, bytes_passed zeros.certificate refl, bytes_passed zeros.views refl)
@@ -97,6 +101,7 @@ run =
     record {
       few = omega arith;
       round_is = omega arith;
+      behave = λ i g. refl;
       opened = among_three;
       books = λ i h. zeros_so;
       theirs = sites_passed all_but_0 rehearsed computed.theirs;

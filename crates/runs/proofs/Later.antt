@@ -165,7 +165,7 @@ module _ (f t limit round : ℕ) (good : SiteSet) (w : World) (es : List Event) 
         by_result (Err y) q = empty_front (Propose p) h.0 (sym (rw q) ∙ h.1)
         by_result (Ok y) q =
             let done = sym (result_is f t limit round good w es run past e c) ∙ q in
-            let drafted = sym (draft_is_in_out (after w past) e y q) ∙ h.1 in
+            let drafted = sym (draft_is_in_out (after w past) e y stands.behaves q) ∙ h.1 in
             let r = proposal_of_propose e.check m s.kept s.books (length e.out) e.request y done (ap kind_byte drafted) in
             let words : ValueFits r.0 = subst OfWords r.1 (each_of (λ (z : Event). OfWords z.request) es past e c run.of_words) in
             proposes_it r.0 y r.1 (subst (λ (z : Request). performed e.check m s.kept s.books (length e.out) z ≡ Ok y) r.1 done) words h.0 drafted

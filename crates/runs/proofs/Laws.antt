@@ -11,6 +11,7 @@ beginnings_are_runs f t limit round good w es rest run =
     record {
       few = run.few;
       round_is = run.round_is;
+      behave = run.behave;
       opened = run.opened;
       books = run.books;
       theirs = (each_split (λ (e : Event). good e.site ≡ true) es rest run.theirs).0;

@@ -26,7 +26,7 @@ use Rattle.checks.specs.Vouching.{Vouched}
 use Rattle.agreement.specs.Sites.{SiteSet}
 use Rattle.agreement.specs.Statements.{Said, In, Each, judged, Allows, Drafted}
 use Rattle.agreement.specs.Statements as said
-use Rattle.agreement.specs.Moves.{Move, propose_it, hear_propose, hear_prepare, hear_commit, leave, other, makes_commit, step, Tests, vouched}
+use Rattle.agreement.specs.Moves.{Move, propose_it, hear_propose, hear_prepare, hear_commit, leave, other, step, Tests, vouched}
 use Rattle.agreement.specs.Moves as moves
 use Rattle.certificates.specs.Steps.{Question, granted, Step, test, ask, passed, blamed}
 use Rattle.certificates.specs.Faults.{Faulted, in_message, other_round, other_view, other_site, illegal_fix, bad_tag, at_depth}
@@ -61,19 +61,24 @@ use Rattle.runs.proofs.Abstract.{abstract_of, abstract_left, abstract_prepare, c
 pub empty_front : {P : Type 0} (s : Statement) (rest : List ℕ) → [] ≡ statement_bytes s ++ rest → P
 empty_front s rest e = absurd (let l : ◌≡◌ {A = ℕ} 0 (length (statement_bytes s ++ rest)) = ap length e in omega arith)
 
--- whatever fitting statement the draft begins with is what the move drafts
-abbrev pub DraftsBy : Output → Option Said → Type 0
-DraftsBy o y = (s : Statement) (rest : List ℕ) → StatementFits s → draft_of o ≡ statement_bytes s ++ rest → y ≡ Some (said_of s)
+-- this is the draft of a fitting statement, as the move drafts it; or there is no draft
+abbrev pub DraftedAs : Output → Option Said → Type 0
+DraftedAs o None = draft_of o ≡ []
+DraftedAs o (Some y) = (s : Statement) × (attached : List ℕ) × (o ≡ draft s attached) × StatementFits s × (said_of s ≡ y)
 
-one_draft : (own : Statement) (attached : List ℕ) → StatementFits own → DraftsBy (draft own attached) (Some (said_of own))
-one_draft own attached fits s rest fits' e = ap (λ (z : Statement). Some (said_of z)) (fronts_apart own s attached rest fits fits' e)
+-- so whatever fitting statement it begins with is what the move drafts
+pub begins_as : (o : Output) (y : Option Said) → DraftedAs o y → (s : Statement) (rest : List ℕ) → StatementFits s → draft_of o ≡ statement_bytes s ++ rest → y ≡ Some (said_of s)
+begins_as o None h s rest fits e = empty_front s rest (sym h ∙ e)
+begins_as o (Some y) h s rest fits e =
+    let same = fronts_apart h.0 s h.1 rest h.3 fits (sym (ap draft_of h.2) ∙ e) in
+    ap (λ (z : Said). Some z) (sym h.4 ∙ ap said_of same)
 
-no_draft : (y : Option Said) → DraftsBy nothing y
-no_draft y s rest fits e = empty_front s rest e
+one_draft : (own : Statement) (attached : List ℕ) → StatementFits own → DraftedAs (draft own attached) (Some (said_of own))
+one_draft own attached fits = (own, attached, refl, fits, refl)
 
-perhaps : (b : Bool) (own : Statement) (attached : List ℕ) → StatementFits own → DraftsBy (cond b (draft own attached) nothing) (cond b (Some (said_of own)) None)
+perhaps : (b : Bool) (own : Statement) (attached : List ℕ) → StatementFits own → DraftedAs (cond b (draft own attached) nothing) (cond b (Some (said_of own)) None)
 perhaps true own attached fits = one_draft own attached fits
-perhaps false own attached fits = no_draft None
+perhaps false own attached fits = refl
 
 -- ---- what is tested ----
 
@@ -135,12 +140,12 @@ module _ (v : Vouched) (good : SiteSet) (log : List Said) (m : Membership) (k : 
     pub tests : Tests m.f m.t (abstract_of k) move
     pub vouched_for : Drafted good log (vouched m.f m.t (abstract_of k) move)
     pub steps : abstract_of x.kept ≡ step m.f m.t (abstract_of k) move
-    pub drafts : DraftsBy x.output (moves.draft m.f m.t m.own (abstract_of k) move)
+    pub drafts : DraftedAs x.output (moves.draft m.f m.t m.own (abstract_of k) move)
 
   -- what leaves the record, and drafts nothing
   still : (x : Effect) → abstract_of x.kept ≡ abstract_of k → draft_of x.output ≡ [] → MovesTo x
   still x e o =
-      record { move = other; tests = tt; vouched_for = tt; steps = e; drafts = λ s rest fits q. empty_front s rest (sym o ∙ q) }
+      record { move = other; tests = tt; vouched_for = tt; steps = e; drafts = o }
 
   module _ (fleet : legal_fleet m.f m.t ≡ true) (inside : m.own < sites m.f m.t) (round_low : k.round < 2 ^ 32) (view_low : k.view < 2 ^ 32) (sound : Sound m k) (reports : Reports k) where
     own_fits : (d : Value) → ValueFits d → ClaimFits (own_claim m k d)
@@ -227,7 +232,7 @@ module _ (v : Vouched) (good : SiteSet) (log : List Said) (m : Membership) (k : 
             tests = row_ok v row c.value q.rest_ok;
             vouched_for = (λ x. subst (λ (n : ℕ). In (said.prepare i n c.value) log) q.view_is (y.0 x), tt);
             steps = abstract_prepare m k books i c.value tag here;
-            drafts = subst (λ (b : Bool). DraftsBy output (cond b (Some (said.commit m.own k.view c.value)) None)) (certifies_alike m k books i c.value here)
+            drafts = subst (λ (b : Bool). DraftedAs output (cond b (Some (said.commit m.own k.view c.value)) None)) (certifies_alike m k books i c.value here)
                 (perhaps certifies (Commit (own_claim m k c.value)) certificate (own_fits c.value fits.1));
           }
 
@@ -248,7 +253,7 @@ module _ (v : Vouched) (good : SiteSet) (log : List Said) (m : Membership) (k : 
             tests = row_ok v row c.value r.0;
             vouched_for = (λ x. subst (λ (n : ℕ). In (said.commit i n c.value) log) q.view_is (y.0 x), tt);
             steps = abstract_commit m k books i c.value here;
-            drafts = no_draft None;
+            drafts = refl;
           }
 
       moves_hear_content : (c : Content) → message_of m.limit packet ≡ Ok c → passed v (hear_content m k books packet c).steps ≡ Ok (tt {0}) → Means v good log (hear_content m k books packet c).steps

@@ -16,7 +16,7 @@ use Rattle.calls.specs.Laws.{Sound, OfBytes}
 use Rattle.calls.proofs.Done.{done_ok, propose_done, hear_done, leave_done, seal_done}
 use Rattle.calls.proofs.Laws.{only_these}
 use Rattle.calls.proofs.Reported.{Reports, none_sent, call_reports}
-use Rattle.runs.specs.Runs.{Site, World, Event, result, questions, left, OfWords}
+use Rattle.runs.specs.Runs.{Behaviour, by_the_rules, Site, World, Event, result, questions, left, OfWords}
 
 -- ---- one call ----
 
@@ -66,7 +66,7 @@ module _ (v : Vouched) (m : Membership) (k : Kept) (books : Books) (sound : Soun
     | inr e ↦ subst OfWords e.0 words
   ]
 
-packets_of_bytes : (r : Request) → OfWords r → OfBytes r
+pub packets_of_bytes : (r : Request) → OfWords r → OfBytes r
 packets_of_bytes (to_propose d) h = tt
 packets_of_bytes (to_hear packet) h = h
 packets_of_bytes (to_leave view) h = tt
@@ -82,6 +82,7 @@ module _ (f t limit round : ℕ) where
 
   -- site i, opened in this fleet and round, behind any calls
   pub record Stands (i : ℕ) (s : Site) : Type 0 where
+    pub behaves : s.behaviour ≡ by_the_rules
     pub member_is : s.member ≡ member i
     pub inside : i < sites f t
     pub round_is : s.kept.round ≡ round
@@ -92,10 +93,14 @@ module _ (f t limit round : ℕ) where
 
   -- what a call does there, and what it asks, by the site's membership
   pub result_as : (w : World) (e : Event) → Stands e.site (w e.site) → result w e ≡ performed e.check (member e.site) (w e.site).kept (w e.site).books (length e.out) e.request
-  result_as w e h = ap (λ (m : Membership). performed e.check m (w e.site).kept (w e.site).books (length e.out) e.request) h.member_is
+  result_as w e h =
+      ap (λ (b : Behaviour). b.performs e.check (w e.site).member (w e.site).kept (w e.site).books (length e.out) e.request) h.behaves
+      ∙ ap (λ (m : Membership). performed e.check m (w e.site).kept (w e.site).books (length e.out) e.request) h.member_is
 
   pub questions_as : (w : World) (e : Event) → Stands e.site (w e.site) → questions w e ≡ asks e.check (member e.site) (w e.site).kept (w e.site).books (length e.out) e.request
-  questions_as w e h = ap (λ (m : Membership). asks e.check m (w e.site).kept (w e.site).books (length e.out) e.request) h.member_is
+  questions_as w e h =
+      ap (λ (b : Behaviour). b.asks e.check (w e.site).member (w e.site).kept (w e.site).books (length e.out) e.request) h.behaves
+      ∙ ap (λ (m : Membership). asks e.check m (w e.site).kept (w e.site).books (length e.out) e.request) h.member_is
 
   pub stands_next : (w : World) (e : Event) → OfWords e.request → Stands e.site (w e.site) → Stands e.site (left w e)
   stands_next w e words was = by_result (result w e) refl
@@ -103,13 +108,14 @@ module _ (f t limit round : ℕ) where
       s : Site
       s = w e.site
 
-      by_result : (r : Result Effect Refused) → result w e ≡ r → Stands e.site (record { member = s.member; kept = kept_after s.kept r; books = books_after s.books r })
+      by_result : (r : Result Effect Refused) → result w e ≡ r → Stands e.site (record { behaviour = s.behaviour; member = s.member; kept = kept_after s.kept r; books = books_after s.books r })
       by_result (Err x) h = was
       by_result (Ok x) h =
           let m = member e.site in
           let done = sym (result_as w e was) ∙ h in
           let shaped = shapes e.check m s.kept s.books was.sound was.views (length e.out) e.request x words done in
           record {
+            behaves = was.behaves;
             member_is = was.member_is;
             inside = was.inside;
             round_is = only_these.rounds e.check m s.kept s.books (length e.out) e.request x done ∙ was.round_is;
@@ -124,8 +130,8 @@ module _ (f t limit round : ℕ) where
   opened_as false x y h = absurd (let z : ◌≡◌ {A = ℕ} 0 1 = cc in omega arith)
 
   -- what opening leaves
-  pub opens : (i : ℕ) (s : Site) → opening f t i limit round ≡ Ok (s.member, s.kept) → Bytes s.books.views → Stands i s × (s.kept ≡ fresh round)
-  opens i s h views =
+  pub opens : (i : ℕ) (s : Site) → s.behaviour ≡ by_the_rules → opening f t i limit round ≡ Ok (s.member, s.kept) → Bytes s.books.views → Stands i s × (s.kept ≡ fresh round)
+  opens i s behaves h views =
       let o = opened_as (openable f t i limit) (member i, fresh round) (s.member, s.kept) h in
       let p = and_parts (legal_fleet f t && ltb i (sites f t)) (legal_limit limit) o.0 in
       let q = and_parts (legal_fleet f t) (ltb i (sites f t)) p.0 in
@@ -133,6 +139,7 @@ module _ (f t limit round : ℕ) where
       let sound : Sound (member i) (fresh round) = record { fleet = q.0; limit = p.1; prepares = refl; commits = refl; tags = refl; views = refl } in
       let reports : Reports (fresh round) = record { first = omega arith; prepared = none_sent 1; committed = none_sent 1 } in (
         record {
+          behaves = behaves;
           member_is = sym (ap (λ (z : Membership × Kept). z.0) o.1);
           inside = ltb-true i (sites f t) q.1;
           round_is = ap (λ (z : Kept). z.round) kept;

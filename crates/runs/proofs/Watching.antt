@@ -1,5 +1,5 @@
 -- A run is watched as it goes: a test of its calls that computes, and that tells that nothing in it is forged.
-use Rattle.std.proofs.Common.{◌≡◌, ℕ, zero, suc, ◌^◌, ◌⊎◌, Bool, true, false, not, ◌&&◌, ◌||◌, List, [], ◌∷◌, ◌++◌, length, take, drop, Ok, Err, Result, is_ok, bytes_eq, eqb-true, subst, refl, sym, ap, ◌∙◌, inl, inr, arith}
+use Rattle.std.proofs.Common.{◌≡◌, ℕ, zero, suc, ◌+◌, ◌^◌, ◌⊎◌, Bool, true, false, not, ◌&&◌, ◌||◌, List, [], ◌∷◌, ◌++◌, length, take, drop, Ok, Err, Result, is_ok, bytes_eq, eqb-true, subst, refl, sym, ap, ◌∙◌, inl, inr, arith}
 use Rattle.std.specs.Prelude.{cond, nat_lt, ◌==◌}
 use Rattle.std.specs.List.{list_all}
 use Rattle.std.proofs.lemmas.Bool.{and_parts, or_cases, ltb-true}
@@ -39,27 +39,40 @@ backed good v made q = not (granted v q && good q.site) || among made q.site (st
 
 -- what a call leaves of its site, and the sites with that one, and its draft, by the call's result
 abbrev site_left : Site → Result Effect Refused → Site
-site_left s r = record { member = s.member; kept = kept_after s.kept r; books = books_after s.books r }
+site_left s r = record { behaviour = s.behaviour; member = s.member; kept = kept_after s.kept r; books = books_after s.books r }
 
 abbrev with_site : World → ℕ → Site → World
 with_site w i s j = cond (j == i) s (w j)
 
-abbrev draft_by : Event → Result Effect Refused → List ℕ
+abbrev pub draft_by : Event → Result Effect Refused → List ℕ
 draft_by e r = take (draft_length e.request (answer_of r)) (out_after e.out r)
 
--- a call that is not refused, and what is asked of the calls behind it
-abbrev going_on : World → List Made → Event → Result Effect Refused → (World → List Made → Bool) → Bool
-going_on w made e r rest = is_ok r && rest (with_site w e.site (site_left (w e.site) r)) ((e.site, draft_by e r) ∷ made)
+-- what a call is looked at for: by its number, the sites before it, and its result
+abbrev pub Look : Type 0
+Look = ℕ → World → Event → Result Effect Refused → Bool
+
+-- a call that passes, and what is asked of the calls behind it
+abbrev going_on : Look → ℕ → World → List Made → Event → Result Effect Refused → (World → List Made → Bool) → Bool
+going_on look n w made e r rest = look n w e r && rest (with_site w e.site (site_left (w e.site) r)) ((e.site, draft_by e r) ∷ made)
 
 -- the sites behind these calls, with what each call leaves worked out once: `after` works it out at each look at a site
 abbrev pub worked_out : World → List Event → World
 worked_out w [] = w
 worked_out w (e ∷ es) = worked_out (with_site w e.site (site_left (w e.site) (result w e))) es
 
--- none of these calls is refused, and none is told yes about a statement of a rule-following site that this site has not drafted
+-- all of these calls pass, counted from n, and none is told yes about a statement of a rule-following site that this site has not
+-- drafted
+abbrev pub looked_at : SiteSet → Look → ℕ → World → List Made → List Event → Bool
+looked_at good look n w made [] = true
+looked_at good look n w made (e ∷ es) =
+    list_all (backed good e.check made) (questions w e) && going_on look n w made e (result w e) (λ v more. looked_at good look (suc n) v more es)
+
+-- none of them is refused
+abbrev pub accepted : Look
+accepted n w e r = is_ok r
+
 abbrev pub watched : SiteSet → World → List Made → List Event → Bool
-watched good w made [] = true
-watched good w made (e ∷ es) = list_all (backed good e.check made) (questions w e) && going_on w made e (result w e) (λ v more. watched good v more es)
+watched good w made es = looked_at good accepted 0 w made es
 
 -- each is below 256
 abbrev all_bytes : List ℕ → Bool
@@ -164,31 +177,45 @@ module _ (good : SiteSet) where
       (λ q. granted x.check q ≡ true → good q.site ≡ true → Backed made w (p ∷ past) q.site (statement_bytes q.said))
       (questions (after (next w p) past) x) (λ q k a b. one_more w made p past q.site (statement_bytes q.said) (k a b)) t
 
-  -- what the test tells of a call, and of the calls behind it
-  watched_parts : (w : World) (made : List Made) (e : Event) (es : List Event) → watched good w made (e ∷ es) ≡ true
-      → (list_all (backed good e.check made) (questions w e) ≡ true) × (is_ok (result w e) ≡ true) × (watched good (next w e) ((e.site, draft_left w e) ∷ made) es ≡ true)
-  watched_parts w made e es h =
-      let a = and_parts (list_all (backed good e.check made) (questions w e)) (is_ok (result w e) && watched good (next w e) ((e.site, draft_left w e) ∷ made) es) h in
-      let b = and_parts (is_ok (result w e)) (watched good (next w e) ((e.site, draft_left w e) ∷ made) es) a.1 in
-      (a.0, b.0, b.1)
+  module _ (look : Look) where
+    -- what the test tells of a call, and of the calls behind it
+    looked_parts : (n : ℕ) (w : World) (made : List Made) (e : Event) (es : List Event) → looked_at good look n w made (e ∷ es) ≡ true
+        → (list_all (backed good e.check made) (questions w e) ≡ true) × (look n w e (result w e) ≡ true) × (looked_at good look (suc n) (next w e) ((e.site, draft_left w e) ∷ made) es ≡ true)
+    looked_parts n w made e es h =
+        let a = and_parts (list_all (backed good e.check made) (questions w e)) (look n w e (result w e) && looked_at good look (suc n) (next w e) ((e.site, draft_left w e) ∷ made) es) h in
+        let b = and_parts (look n w e (result w e)) (looked_at good look (suc n) (next w e) ((e.site, draft_left w e) ∷ made) es) a.1 in
+        (a.0, b.0, b.1)
 
-  tells : (w : World) (made : List Made) (es : List Event) → watched good w made es ≡ true → (past : List Event) (x : Event) → Comes es past x
-      → BackedThere good made w past x × (is_ok (result (after w past) x) ≡ true)
-  tells w made [] h past x c = absurd (comes_nowhere past x c)
-  tells w made (e ∷ es) h [] x c =
-      let p = watched_parts w made e es h in
-      subst (λ y. BackedThere good made w [] y × (is_ok (result w y) ≡ true)) (comes_first e x es c) (first_told w made e p.0, p.1)
-  tells w made (e ∷ es) h (p ∷ past) x c =
-      let l = comes_later e p x es past c in
-      let t = tells (next w e) ((e.site, draft_left w e) ∷ made) es (watched_parts w made e es h).2 past x l.1 in
-      subst (λ y. BackedThere good made w (y ∷ past) x × (is_ok (result (after (next w y) past) x) ≡ true)) l.0 (later_told w made e past x t.0, t.1)
+    -- call number k passes
+    abbrev Passes : ℕ → World → List Event → Event → Type 0
+    Passes k w past x = look k (after w past) x (result (after w past) x) ≡ true
 
-  -- calls that pass the test are told of nothing forged, and none is refused
+    tells : (n : ℕ) (w : World) (made : List Made) (es : List Event) → looked_at good look n w made es ≡ true → (past : List Event) (x : Event) → Comes es past x
+        → (k : ℕ) → k ≡ n + length past → BackedThere good made w past x × Passes k w past x
+    tells n w made [] h past x c k at = absurd (comes_nowhere past x c)
+    tells n w made (e ∷ es) h [] x c k at =
+        let p = looked_parts n w made e es h in
+        let first : n ≡ k = omega (arith, at) in
+        subst (λ y. BackedThere good made w [] y × Passes k w [] y) (comes_first e x es c) (first_told w made e p.0, subst (λ m. look m w e (result w e) ≡ true) first p.1)
+    tells n w made (e ∷ es) h (p ∷ past) x c k at =
+        let l = comes_later e p x es past c in
+        let t = tells (suc n) (next w e) ((e.site, draft_left w e) ∷ made) es (looked_parts n w made e es h).2 past x l.1 k (omega (arith, at)) in
+        subst (λ y. BackedThere good made w (y ∷ past) x × Passes k w (y ∷ past) x) l.0 (later_told w made e past x t.0, t.1)
+
+    -- calls that pass the test are told of nothing forged
+    pub looked_unforged : (w : World) (es : List Event) → looked_at good look 0 w [] es ≡ true → NothingForged good w es
+    looked_unforged w es h past x c =
+        each_map (λ q. granted x.check q ≡ true → good q.site ≡ true → Backed [] w past q.site (statement_bytes q.said))
+        (λ q. granted x.check q ≡ true → good q.site ≡ true → HasDrafted w past q.site (statement_bytes q.said))
+        (questions (after w past) x) (λ q k a b. none_made w past q.site (statement_bytes q.said) (k a b)) (tells 0 w [] es h past x c (length past) (omega arith)).0
+
+    pub looked_passes : (w : World) (es : List Event) → looked_at good look 0 w [] es ≡ true → (past : List Event) (x : Event) → Comes es past x
+        → (k : ℕ) → k ≡ length past → look k (after w past) x (result (after w past) x) ≡ true
+    looked_passes w es h past x c k at = (tells 0 w [] es h past x c k (omega (arith, at))).1
+
+  -- and here none is refused
   pub watched_unforged : (w : World) (es : List Event) → watched good w [] es ≡ true → NothingForged good w es
-  watched_unforged w es h past x c =
-      each_map (λ q. granted x.check q ≡ true → good q.site ≡ true → Backed [] w past q.site (statement_bytes q.said))
-      (λ q. granted x.check q ≡ true → good q.site ≡ true → HasDrafted w past q.site (statement_bytes q.said))
-      (questions (after w past) x) (λ q k a b. none_made w past q.site (statement_bytes q.said) (k a b)) (tells w [] es h past x c).0
+  watched_unforged w es h = looked_unforged accepted w es h
 
   pub watched_accepts : (w : World) (es : List Event) → watched good w [] es ≡ true → (past : List Event) (x : Event) → Comes es past x → (left : Effect) × (result (after w past) x ≡ Ok left)
-  watched_accepts w es h past x c = ok_is (result (after w past) x) (tells w [] es h past x c).1
+  watched_accepts w es h past x c = ok_is (result (after w past) x) (looked_passes accepted w es h past x c (length past) refl)

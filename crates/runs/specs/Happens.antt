@@ -15,7 +15,7 @@ use Rattle.calls.specs.Effects.{judged, found, Effect, head_of}
 use Rattle.calls.specs.Calls.{Request, to_hear, to_seal, to_judge, to_read, answer_of}
 use Rattle.calls.specs.Examples as examples
 use Rattle.calls.specs.Examples.{calls, seals, member, empty_books, rehearsal, rehearsed_rows, claim, offer_d, offer_e, lie, preparing, late, third}
-use Rattle.runs.specs.Runs.{World, Event, result, after, Comes, HasDrafted, Run}
+use Rattle.runs.specs.Runs.{Behaviour, by_the_rules, World, Event, result, after, Comes, HasDrafted, Run}
 use Rattle.runs.specs.Promises.{Reads}
 
 -- of four sites, all but site 0 follow the rules
@@ -23,8 +23,11 @@ abbrev pub all_but_0 : SiteSet
 all_but_0 i = nat_lt 0 i && nat_lt i 4
 
 -- they are opened in round 9, with a tag limit of 4, and with books of zeros
+abbrev pub opened_by : Behaviour → World
+opened_by behaviour i = record { behaviour = behaviour; member = member 0 4 i; kept = fresh 9; books = empty_books (sizes_of 1 0 4) }
+
 abbrev pub opened_world : World
-opened_world i = record { member = member 0 4 i; kept = fresh 9; books = empty_books (sizes_of 1 0 4) }
+opened_world = opened_by by_the_rules
 
 -- a call of site i with this check, and with an out of zeros
 abbrev pub called_with : Vouched → ℕ → Request → Event

@@ -8,7 +8,7 @@ use Rattle.agreement.specs.Sites.{SiteSet}
 use Rattle.agreement.specs.Statements.{Each}
 use Rattle.certificates.specs.Steps.{Question}
 use Rattle.calls.specs.Effects.{Output, nothing, draft, message, Effect, head_of}
-use Rattle.runs.specs.Runs.{World, Event, result, questions, draft_left, Drafts, after, Comes, Run}
+use Rattle.runs.specs.Runs.{by_the_rules, World, Event, result, questions, draft_left, Drafts, after, Comes, Run}
 use Rattle.runs.specs.Promises.{InEveryRun}
 
 -- the draft among what is written
@@ -19,7 +19,8 @@ draft_of (message b) = []
 
 -- the draft that a call leaves in out is the one that it is defined to write: its statement, and what that attaches
 abbrev pub DraftIsInOut : Type 0
-DraftIsInOut = (w : World) (e : Event) (x : Effect) → result w e ≡ Ok x → draft_left w e ≡ draft_of x.output
+DraftIsInOut =
+    (w : World) (e : Event) (x : Effect) → (w e.site).behaviour ≡ by_the_rules → result w e ≡ Ok x → draft_left w e ≡ draft_of x.output
 
 -- and it begins with one statement only, whose numbers are words
 abbrev pub OneStatement : Type 0

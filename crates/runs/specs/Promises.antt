@@ -12,24 +12,32 @@ use Rattle.agreement.specs.Sites.{SiteSet}
 use Rattle.records.specs.Kept.{Decided}
 use Rattle.calls.specs.Effects.{judged, found}
 use Rattle.calls.specs.Calls.{to_judge, to_read, answer_of}
-use Rattle.runs.specs.Runs.{World, Event, result, after, Comes, HasDrafted, Run}
+use Rattle.runs.specs.Runs.{World, Event, result, after, Comes, HasDrafted, Behaviour, by_the_rules, RunBy}
 
 -- read gives this decision at site i
 abbrev pub Reads : World → ℕ → Decided → Type 0
 Reads w i x = (e : Event) × (e.site ≡ i) × (e.request ≡ to_read) × (answer_of (result w e) ≡ Ok (found (Some x)))
 
--- of every run: of every fleet, tag limit and round, of every choice of at most f sites that break the rules, of whatever the
--- others' books held, and whatever they were called with and checked by
+-- of every run of sites that behave so: of every fleet, tag limit and round, of every choice of at most f sites that break the
+-- rules, of whatever the others' books held, and whatever they were called with and checked by
+abbrev pub InEveryRunBy : Behaviour → ((f t limit round : ℕ) → SiteSet → World → List Event → Type 0) → Type 0
+InEveryRunBy rules P =
+    (f t limit round : ℕ) (good : SiteSet) (w : World) (es : List Event) → RunBy rules f t limit round good w es → P f t limit round good w es
+
+-- and of the sites as they are defined
 abbrev pub InEveryRun : ((f t limit round : ℕ) → SiteSet → World → List Event → Type 0) → Type 0
-InEveryRun P = (f t limit round : ℕ) (good : SiteSet) (w : World) (es : List Event) → Run f t limit round good w es → P f t limit round good w es
+InEveryRun P = InEveryRunBy by_the_rules P
 
 -- whatever read gives at any two moments, after a calls and after b, at any two rule-following sites, or at one, names one fix
-abbrev pub DecisionsAgree : Type 0
-DecisionsAgree =
-    InEveryRun (λ f t limit round good w es.
+abbrev pub DecisionsAgreeBy : Behaviour → Type 0
+DecisionsAgreeBy rules =
+    InEveryRunBy rules (λ f t limit round good w es.
     (a b i j : ℕ) (x y : Decided) → good i ≡ true → good j ≡ true
     → Reads (after w (take a es)) i x → Reads (after w (take b es)) j y
     → x.report.value ≡ y.report.value)
+
+abbrev pub DecisionsAgree : Type 0
+DecisionsAgree = DecisionsAgreeBy by_the_rules
 
 -- a judge that is asked at any moment, also before the decision, about a view above that of the decision answers that the fix
 -- decided is forced, or refuses the certificate for its layout, or as a bad one

@@ -17,8 +17,18 @@ use Rattle.calls.specs.Laws.{told_bytes}
 
 -- ---- sites and calls ----
 
--- a site: who it is, what it keeps of its round, and its books
+-- how a site behaves: what comes of a call, and what it asks its check
+pub record Behaviour : Type 0 where
+  pub performs : Vouched → Membership → Kept → Books → ℕ → Request → Result Effect Refused
+  pub asks : Vouched → Membership → Kept → Books → ℕ → Request → List Question
+
+-- as the calls are defined
+abbrev pub by_the_rules : Behaviour
+by_the_rules = record { performs = performed; asks = asks }
+
+-- a site: how it behaves, who it is, what it keeps of its round, and its books
 pub record Site : Type 0 where
+  pub behaviour : Behaviour
   pub member : Membership
   pub kept : Kept
   pub books : Books
@@ -51,11 +61,11 @@ draft_length r (Err e) = 0
 module _ (w : World) (e : Event) where
   -- the refusal, or what the call leaves
   abbrev pub result : Result Effect Refused
-  result = performed e.check (w e.site).member (w e.site).kept (w e.site).books (length e.out) e.request
+  result = (w e.site).behaviour.performs e.check (w e.site).member (w e.site).kept (w e.site).books (length e.out) e.request
 
   -- what it asks its check
   abbrev pub questions : List Question
-  questions = asks e.check (w e.site).member (w e.site).kept (w e.site).books (length e.out) e.request
+  questions = (w e.site).behaviour.asks e.check (w e.site).member (w e.site).kept (w e.site).books (length e.out) e.request
 
   -- the draft that it leaves in out: none, if it is refused or drafts nothing
   abbrev pub draft_left : List ℕ
@@ -69,6 +79,7 @@ module _ (w : World) (e : Event) where
   abbrev pub left : Site
   left =
       record {
+        behaviour = (w e.site).behaviour;
         member = (w e.site).member;
         kept = kept_after (w e.site).kept result;
         books = books_after (w e.site).books result;
@@ -114,12 +125,15 @@ OfWords to_read = Unit {0}
 abbrev pub BooksOfBytes : Books → Type 0
 BooksOfBytes books = Bytes books.tags × Bytes books.certificate × Bytes books.views
 
--- a run: `good` are the sites that follow the rules, w is how they stood when they were opened, and es is what was called since
-pub record Run (f t limit round : ℕ) (good : SiteSet) (w : World) (es : List Event) : Type 0 where
-  -- at most f sites of the fleet break the rules
+-- a run of sites that behave so: `good` are the sites that follow the rules, w is how they stood when they were opened, and es is
+-- what was called since
+pub record RunBy (rules : Behaviour) (f t limit round : ℕ) (good : SiteSet) (w : World) (es : List Event) : Type 0 where
+  -- at most f sites of the fleet are not among them
   pub few : size (all_but good) (sites f t) ≤ f
   pub round_is : round < 2 ^ 32
-  -- all others were opened alike, each under its own number, with books of any bytes
+  -- these behave so
+  pub behave : (i : ℕ) → good i ≡ true → (w i).behaviour ≡ rules
+  -- they were opened alike, each under its own number, with books of any bytes
   pub opened : (i : ℕ) → good i ≡ true → opening f t i limit round ≡ Ok ((w i).member, (w i).kept)
   pub books : (i : ℕ) → good i ≡ true → BooksOfBytes (w i).books
   -- the calls are theirs
@@ -127,3 +141,7 @@ pub record Run (f t limit round : ℕ) (good : SiteSet) (w : World) (es : List E
   pub of_words : Each (λ (e : Event). OfWords e.request) es
   -- and they were told of nothing forged
   pub unforged : NothingForged good w es
+
+-- a run of the sites as they are defined
+abbrev pub Run : (f t limit round : ℕ) → SiteSet → World → List Event → Type 0
+Run f t limit round good w es = RunBy by_the_rules f t limit round good w es
