@@ -1,0 +1,15 @@
+pub mod Moments
+pub mod Own
+pub mod Sources
+pub mod Present
+pub mod Sealing
+pub mod Views
+pub mod Deliver
+pub mod Gather
+pub mod Filled
+pub mod Meet
+pub mod LineTests
+pub mod Lines
+pub mod LinesMeet
+pub mod ScriptMeets
+pub mod Meets

@@ -1,0 +1,4 @@
+pub mod Sealing
+pub mod Recovery
+pub mod Scripts
+pub mod Meets
