@@ -1,0 +1,3 @@
+// Sites that behave otherwise than the rules say, and which promises they break: definitions and
+// proofs, without code.
+#![tactic(auto)]
