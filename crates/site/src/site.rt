@@ -12,6 +12,11 @@ ghost use Rattle.runs.specs.Laws.{RunLaws};
 ghost use Rattle.runs.specs.Promises.{DecisionsAgree, LaterCertificatesForce, LaterViewsKeepIt, NeverConflict};
 ghost use Rattle.runs.specs.Happens.{Happens};
 ghost use Rattle.runs.specs.TwoLiars.{TwoLiars};
+ghost use Rattle.liveness.specs.Sealing.{DraftsAreSealed};
+ghost use Rattle.liveness.specs.Recovery.{ChosenRecover, ChosenDecideFast};
+ghost use Rattle.liveness.specs.Meets.{Recovers, DecidesFast, DecidesFirst};
+ghost use Rattle.wrong_sites.specs.Undecided.{WrongSitesLose};
+ghost use Rattle.wrong_sites.specs.Differing.{WrongRulesDiffer};
 
 use calls::Record;
 use certificates::judge;
@@ -27,14 +32,22 @@ pub struct Site {
 }
 
 impl Site {
-    // The decision, if there is one. What every run keeps of decisions stands in this contract.
+    // The decision, if there is one. What every run keeps of decisions, and when one comes about,
+    // stands in this contract.
     pub fn read(&self) -> Option<Decision>
         ensures value { (v : Vouched) (books : Books) (out : ℕ) → answer_of (performed v (membership_of self.now.record.member) (kept_of self.now.record.round) books out to_read) ≡ Ok (found (option_map decided_as result)) }
         ensures agree { DecisionsAgree }
         ensures later_views { LaterViewsKeepIt }
+        ensures recover { ChosenRecover }
+        ensures fast { ChosenDecideFast }
         ensures laws { RunLaws }
         ensures happens { Happens }
         ensures two_liars { TwoLiars }
+        ensures recovers { Recovers }
+        ensures decides_fast { DecidesFast }
+        ensures decides_first { DecidesFirst }
+        ensures wrong_sites { WrongSitesLose }
+        ensures wrong_rules { WrongRulesDiffer }
     {
         self.record.round.decision
     }
@@ -62,10 +75,12 @@ impl Site {
         )
     }
 
-    // Puts a tag into a draft; the message stands at the start of `out`. Answers its length.
+    // Puts a tag into a draft; the message stands at the start of `out`. Answers its length. That
+    // any draft of a run can be sealed stands in this contract.
     pub fn seal(&self, draft: &[u8], tag: &[u8], out: &mut [u8]) -> Result<usize, Refusal>
         ensures value { (v : Vouched) (books : Books) → answered (λ n. wrote n) result ≡ answer_of (performed v (membership_of self.now.record.member) (kept_of self.now.record.round) books (length out.old) (to_seal draft.now tag.now)) }
         ensures after { (v : Vouched) (books : Books) → out.new ≡ out_after out.old (performed v (membership_of self.now.record.member) (kept_of self.now.record.round) books (length out.old) (to_seal draft.now tag.now)) }
+        ensures drafts { DraftsAreSealed }
     {
         seal(draft, tag, self.record.member.limit, out)
     }
