@@ -17,7 +17,7 @@ LIAR, FLEET, LIMIT, ROUND, TAG = 0, (1, 0), 4, 9, word(0)
 
 class Check(Bench):
     """The check says yes to all that the liar says, and to what another site has drafted in a call before. What was drafted
-    is handed in as the register. So nothing is forged, whatever is called."""
+    is handed in as the register. So nothing is forged, whatever is called, and the check keeps to each yes."""
 
     def vouched(self, site, statement, t):
         return site == LIAR or (site, statement) in self.register
@@ -39,21 +39,14 @@ class NeverAsked(Check):
         return True
 
 
-class FirstPrepareDecides(Right):
-    def decide(self, reached, fix, way):
-        return super().decide(reached or way == "fast", fix, way)
-
-
-class FewerCommits(Right):
-    def decide(self, reached, fix, way):
-        same = list(self.commits.values()).count(fix)
-        return super().decide(reached or way == "recovery" and same >= self.n - self.f - self.t - 1, fix, way)
-
-
-class FewerPrepares(Right):
-    def decide(self, reached, fix, way):
-        same = list(self.prepares.values()).count(fix)
-        return super().decide(reached or way == "fast" and same >= self.n - self.t - 1, fix, way)
+def deciding(way, enough):
+    """The right rules, but so many prepares of a fix decide it, if the way is fast, or so many commits, if it is recovery."""
+    def decide(site, reached, fix, by):
+        rows = {"fast": site.prepares, "recovery": site.commits}[by]
+        if by == way:
+            reached = list(rows.values()).count(fix) >= enough(site)
+        return Right.decide(site, reached, fix, by)
+    return type("Deciding", (Right,), {"decide": decide})
 
 
 def with_a_vote_less(one, call):
@@ -116,12 +109,17 @@ def offer(view, fix, turns=()):
     return model.claim(1, ROUND, view, LIAR, fix) + model.tag(TAG) + model.progress(turns)
 
 
+def votes_of(voters):
+    """Entries of a commit certificate."""
+    return [(j, TAG) for j in voters]
+
+
 def commit(view, fix, voters):
-    return model.claim(3, ROUND, view, LIAR, fix) + model.tag(TAG) + model.certificate([(j, TAG) for j in voters])
+    return model.claim(3, ROUND, view, LIAR, fix) + model.tag(TAG) + model.certificate(votes_of(voters))
 
 
-def turn(view, prepared):
-    return model.new_view(ROUND, view, LIAR, prepared, None, TAG)
+def turn(view, prepared, committed=None, voters=()):
+    return model.new_view(ROUND, view, LIAR, prepared, committed, TAG, votes_of(voters))
 
 
 # ---- runs ----
@@ -133,11 +131,11 @@ def statement(data):
 
 
 class Run:
-    """Sites 1, 2 and 3: what was called, what was answered and written, and all that was ever read."""
+    """All sites but the liar: what was called, what was answered and written, and all that was ever read."""
 
-    def __init__(self, rules):
-        sizes = lengths(*FLEET, LIMIT)
-        self.sites = {i: rules(*FLEET, i, LIMIT, ROUND) for i in (1, 2, 3)}
+    def __init__(self, rules, fleet=FLEET):
+        sizes, (f, t) = lengths(*fleet, LIMIT), fleet
+        self.sites = {i: rules(f, t, i, LIMIT, ROUND) for i in range(1, 3 * f + 2 * t + 1)}
         self.books = {i: [bytearray(size) for size in sizes[:3]] for i in self.sites}
         self.out = bytearray(sizes[3])
         self.drafted, self.calls, self.results, self.read = set(), [], [], []
@@ -253,11 +251,11 @@ def tied(run):
 RULES = (
     (1, "hear never asks its check", judging_by(NeverAsked), forged,
      [(1, "fast", D), (2, "fast", E)], (2, "hear", at(8, 28)), [(1, "fast", D)]),
-    (2, "the first prepare of a fix decides", FirstPrepareDecides, own_prepares,
+    (2, "the first prepare of a fix decides", deciding("fast", lambda site: 1), own_prepares,
      [(1, "fast", D), (2, "fast", E)], (1, "hear", NOTED), []),
-    (3, "n - f - t - 1 commits decide", FewerCommits, too_early,
+    (3, "n - f - t - 1 commits decide", deciding("recovery", lambda site: site.n - site.f - site.t - 1), too_early,
      [(2, "recovery", D), (3, "recovery", E)], (2, "hear", NOTED), [(3, "recovery", E)]),
-    (3, "n - t - 1 prepares decide", FewerPrepares, too_early,
+    (3, "n - t - 1 prepares decide", deciding("fast", lambda site: site.n - site.t - 1), too_early,
      [(2, "fast", D), (1, "fast", E), (3, "fast", E)], (2, "hear", (OK, "heard", "noted", 68)), [(3, "recovery", E)]),
     (3, "n - f - t - 1 prepares are a commit certificate", EarlierCommit, two_commits,
      [(1, "recovery", D), (2, "recovery", E)], (1, "hear", NOTED), []),
@@ -285,8 +283,29 @@ def result_text(answer, written):
     return answer_text(answer) + (", the %s" % saying(written) if written else "")
 
 
+def sites_text(sites):
+    *most, last = map(str, sites)
+    return "sites %s and %s" % (", ".join(most), last) if most else "site " + last
+
+
 def reads_text(reads):
-    return ", ".join("site %d reads %s %d %d %d" % ((site, way) + fix) for site, way, fix in reads) or "no site reads a fix"
+    """Who reads what. Sites that read the same stand together."""
+    readers = {}
+    for site, way, fix in reads:
+        readers.setdefault((way, fix), []).append(site)
+    texts = ["%s %s %s %d %d %d" % ((sites_text(sorted(sites)), "reads" if len(sites) == 1 else "read", way) + fix)
+             for (way, fix), sites in readers.items()]
+    return ", ".join(texts) or "no site reads a fix"
+
+
+def parting(wrong, right):
+    """The first call that goes otherwise by the right rules: its site, its name and its answer there; and all that as a text."""
+    k = [one == other for one, other in zip(wrong.results, right.results)].index(False)
+    assert wrong.calls[:k + 1] == right.calls[:k + 1]
+    site, name, given = wrong.calls[k][:3]
+    text = "call %d of %d (%s) answers %s, not %s" % (
+        k + 1, len(wrong.calls), call_text(site, name, given), result_text(*right.results[k]), result_text(*wrong.results[k]))
+    return (site, name, right.results[k][0]), text
 
 
 def main():
@@ -295,14 +314,11 @@ def main():
         story(wrong)
         for call in wrong.calls:
             right.call(*call)
+        parted, parting_text = parting(wrong, right)
         print("%d. %s: %s" % (number, text, reads_text(wrong.read)))
+        print("   with the right rules %s; %s" % (reads_text(right.read), parting_text))
         assert wrong.read == reads and {fix for _, _, fix in reads} == {D, E}
-        k = [one == other for one, other in zip(wrong.results, right.results)].index(False)
-        site, name, given = wrong.calls[k][:3]
-        print("   with the right rules %s; call %d of %d (%s) answers %s, not %s" % (
-            reads_text(right.read), k + 1, len(wrong.calls), call_text(site, name, given),
-            result_text(*right.results[k]), result_text(*wrong.results[k])))
-        assert (site, name, right.results[k][0]) == first
+        assert parted == first
         assert right.read == right_reads and len({fix for _, _, fix in right.read}) < 2
     print("%d wrong rules, each with two decisions" % len({number for number, *_ in RULES}))
 
