@@ -1,6 +1,7 @@
 -- The books, which are lent to each call, and their rows.
 use Rattle.std.specs.Prelude.{ℕ, ◌*◌, List, length, take, drop, slice_index}
 use Rattle.records.specs.declared.books.Books as code
+use Rattle.records.specs.declared.books.BooksMut.{BooksMut}
 use Rattle.records.specs.declared.sizes.Sizes.{Sizes}
 
 pub record Books : Type 0 where
@@ -10,6 +11,10 @@ pub record Books : Type 0 where
 
 abbrev pub books_of : code.Books → Books
 books_of b = record { tags = b.tags.now; certificate = b.certificate.now; views = b.views.now }
+
+-- the same, where they may be written
+abbrev pub writable_of : BooksMut → Books
+writable_of b = record { tags = b.tags.now; certificate = b.certificate.now; views = b.views.now }
 
 -- how long they are, beside an out of so many bytes
 abbrev pub lent_sizes : Books → ℕ → Sizes

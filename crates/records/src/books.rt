@@ -1,6 +1,6 @@
 // The books, which are lent to each call, and their rows.
 ghost use Rattle.std.specs.Prelude.{◌≡◌, ◌+◌, ◌*◌, ◌≤◌, length};
-ghost use Rattle.records.specs.Books.{books_of, lent_sizes, book_row, held};
+ghost use Rattle.records.specs.Books.{books_of, writable_of, lent_sizes, book_row, held};
 
 use super::sizes::Sizes;
 
@@ -22,6 +22,27 @@ impl Books<'_> {
             certificate: self.certificate.len(),
             views: self.views.len(),
             out,
+        }
+    }
+}
+
+// The three books, to be written.
+#[derive(Drop)]
+pub struct BooksMut<'a> {
+    pub tags: &'a mut [u8],
+    pub certificate: &'a mut [u8],
+    pub views: &'a mut [u8],
+}
+
+impl BooksMut<'_> {
+    // To be read.
+    pub fn shared(&self) -> Books<'_>
+        ensures { books_of result ≡ writable_of self.now }
+    {
+        Books {
+            tags: self.tags,
+            certificate: self.certificate,
+            views: self.views,
         }
     }
 }

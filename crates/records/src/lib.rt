@@ -8,7 +8,7 @@ mod round;
 mod rows;
 mod sizes;
 
-pub use books::{Books, held, row};
+pub use books::{Books, BooksMut, held, row};
 pub use member::Member;
 pub use round::{Decision, Lengths, Round, Way};
 pub use rows::Rows;

@@ -1,4 +1,7 @@
 // What a site keeps of a round.
+ghost use Rattle.std.specs.Prelude.{◌≡◌};
+ghost use Rattle.records.specs.Kept.{no_lengths, kept_of, fresh};
+
 use super::rows::Rows;
 use values::{Report, View};
 
@@ -24,6 +27,19 @@ pub struct Lengths {
     pub views: [usize; 16],
 }
 
+impl Lengths {
+    // The books hold nothing.
+    pub fn none() -> Lengths
+        ensures { result ≡ no_lengths }
+    {
+        Lengths {
+            tags: [0; 16],
+            certificate: 0,
+            views: [0; 16],
+        }
+    }
+}
+
 #[derive(Clone, Copy, Debug, PartialEq, Eq)]
 pub struct Round {
     pub number: u32,
@@ -36,4 +52,22 @@ pub struct Round {
     pub rows: Rows,
     pub lengths: Lengths,
     pub decision: Option<Decision>,
+}
+
+impl Round {
+    // In view 1, with nothing heard.
+    pub fn opened(number: u32) -> Round
+        ensures { kept_of result ≡ fresh number }
+    {
+        Round {
+            number,
+            view: View::first(),
+            proposed: false,
+            prepared: None,
+            committed: None,
+            rows: Rows::empty(),
+            lengths: Lengths::none(),
+            decision: None,
+        }
+    }
 }

@@ -79,6 +79,12 @@ pub struct View {
 }
 
 impl View {
+    pub fn first() -> View
+        ensures { result.number ≡ 1 }
+    {
+        View { number: 1 }
+    }
+
     pub fn new(number: u32) -> Option<View>
         ensures { option_map (λ v. v.number) result ≡ view_of number }
     {
