@@ -242,7 +242,7 @@ module _ (v : Vouched) (m : Membership) (round : ℕ) (k : Kept) (books : Books)
     ]
 
     abbrev certificate : List ℕ
-    certificate = certificate_from m k books left.kept.rows.prepares left.books.tags left.kept.lengths.tags c.value
+    certificate = certificate_from m left.kept.rows.prepares left.books.tags left.kept.lengths.tags c.value
 
     abbrev certifies : Bool
     certifies = holding m left.kept.rows.prepares c.value == recovery_quorum m.f m.t
@@ -252,7 +252,7 @@ module _ (v : Vouched) (m : Membership) (round : ℕ) (k : Kept) (books : Books)
         let many : holding m left.kept.rows.prepares c.value ≡ recovery_quorum m.f m.t = eqb-true (holding m left.kept.rows.prepares c.value) (recovery_quorum m.f m.t) e in (
           good_from v m k.round k.view c.value left.books.tags left.kept.lengths.tags left.kept.rows.prepares (few_sites m.f m.t fleet)
               (λ j h. still_tagged j c.value (holder_is (row_of left.kept.rows.prepares j) c.value h)) many,
-          certificate_long m k books left.kept.rows.prepares left.books.tags left.kept.lengths.tags c.value many,
+          certificate_long m left.kept.rows.prepares left.books.tags left.kept.lengths.tags c.value many,
         )
 
     prepare_keeps : Good left

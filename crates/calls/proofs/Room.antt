@@ -85,9 +85,9 @@ module _ (m : Membership) (out : ℕ) (room : out_size m.f m.t m.limit ≤ out) 
 
 -- ---- commit certificates ----
 
-module _ (m : Membership) (k : Kept) (books : Books) where
+module _ (m : Membership) where
   pub certificate_long : (rows : List (Option Value)) (tags lengths : List ℕ) (d : Value) → holding m rows d ≡ recovery_quorum m.f m.t
-      → length (certificate_from m k books rows tags lengths d) ≤ certificate_size m.f m.t m.limit
+      → length (certificate_from m rows tags lengths d) ≤ certificate_size m.f m.t m.limit
   certificate_long rows tags lengths d h =
       let p = holders (row_of rows) d in
       let voters = members p 0 (sites m.f m.t) in
@@ -137,9 +137,9 @@ module _ (v : Vouched) (m : Membership) (k : Kept) (books : Books) (out : ℕ) (
       let lengths = set k.lengths.tags i (length (tag_bytes tag)) in
       let many = holding m rows c.value in
       let q = recovery_quorum m.f m.t in
-      let certificate = certificate_from m k books rows tags lengths c.value in
+      let certificate = certificate_from m rows tags lengths c.value in
       drafts_fit (many == q) (Commit (own_claim m k c.value)) certificate out (λ e.
-      let l = certificate_long m k books rows tags lengths c.value (eqb-true many q e) in
+      let l = certificate_long m rows tags lengths c.value (eqb-true many q e) in
       let whole : 28 + length certificate ≤ view_row m.f m.t m.limit = omega arith in
       let fits = one_fits m out room (28 + length certificate) whole in
       omega arith)
@@ -159,7 +159,7 @@ module _ (v : Vouched) (m : Membership) (k : Kept) (books : Books) (out : ℕ) (
       let b = report_bytes k.committed in
       let c = last_certificate m k.committed k.lengths.certificate books.certificate in
       let long : 16 + length ((a ++ b) ++ c) ≤ view_row m.f m.t m.limit =
-      omega (arith, length-append (a ++ b) c, length-append a b, report_short k.prepared, report_short k.committed, last_short m k books k.committed k.lengths.certificate books.certificate) in
+      omega (arith, length-append (a ++ b) c, length-append a b, report_short k.prepared, report_short k.committed, last_short m k.committed k.lengths.certificate books.certificate) in
       let fits = one_fits m out room (16 + length ((a ++ b) ++ c)) long in
       subst Fits (sym p.is) (omega arith)
 
@@ -192,9 +192,9 @@ module _ (v : Vouched) (m : Membership) (k : Kept) (books : Books) (out : ℕ) (
       let tags = laid books.tags (i * tag_row m.limit) (tag_bytes tag) in
       let lengths = set k.lengths.tags i (length (tag_bytes tag)) in
       let many = holding m rows c.value in
-      let certificate = certificate_from m k books rows tags lengths c.value in
+      let certificate = certificate_from m rows tags lengths c.value in
       let certified = laid_if (many == recovery_quorum m.f m.t) books.certificate certificate (λ e.
-      let l = certificate_long m k books rows tags lengths c.value (eqb-true many (recovery_quorum m.f m.t) e) in
+      let l = certificate_long m rows tags lengths c.value (eqb-true many (recovery_quorum m.f m.t) e) in
       let r = room.certificate in
       omega arith) in
       (length-laid books.tags (tag_bytes tag) (i * tag_row m.limit) inside, certified, refl)

@@ -108,6 +108,12 @@ module _ (m : Membership) where
   abbrev pub holding : List (Option Value) → Value → ℕ
   holding rows d = size (holders (row_of rows) d) (sites m.f m.t)
 
+  -- the tags of the sites whose rows hold d make a commit certificate
+  abbrev pub certificate_from : List (Option Value) → List ℕ → List ℕ → Value → List ℕ
+  certificate_from rows tags lengths d =
+      let voters = members (holders (row_of rows) d) 0 (sites m.f m.t) in
+      word_bytes (length voters) ++ joined (λ j. word_bytes j ++ held_row tags (tag_row m.limit) lengths j) voters
+
   -- the head of what the site says in its view
   abbrev pub own_head : Kept → Head
   own_head k = record { round = k.round; view = k.view; site = m.own }
@@ -166,12 +172,6 @@ module _ (m : Membership) where
           output = output;
           answer = heard noted (length (output_bytes output));
         }
-
-    -- the tags of the sites whose rows hold d make a commit certificate
-    abbrev pub certificate_from : List (Option Value) → List ℕ → List ℕ → Value → List ℕ
-    certificate_from rows tags lengths d =
-        let voters = members (holders (row_of rows) d) 0 (sites m.f m.t) in
-        word_bytes (length voters) ++ joined (λ j. word_bytes j ++ held_row tags (tag_row m.limit) lengths j) voters
 
     -- a prepare fills the sender's row and its row of the tag book; the first recovery quorum of one value is the last
     -- commit, with its certificate, and a fast quorum decides

@@ -14,8 +14,6 @@ ghost use Rattle.records.specs.Kept.{membership_of, kept_of};
 ghost use Rattle.calls.specs.Steps.{row_steps, claim_heard, change_heard, expected, hear_propose_steps, hear_prepare_steps, hear_commit_steps, hear_new_view_steps};
 ghost use Rattle.calls.specs.Hearing.{turn_with, permitted, heard_as};
 ghost use Rattle.calls.specs.Calls.{hear_call};
-ghost use Rattle.calls.specs.Laws.{CallLaws};
-ghost use Rattle.calls.specs.Examples.{CallExamples};
 
 use super::record::Record;
 use certificates::Examiner;
@@ -212,8 +210,7 @@ impl Record {
         Ok(examiner.certified(at, change.committed)?)
     }
 
-    // All that hear tests of a packet; the message that it is. What all calls keep, and runs of them
-    // that were worked out, stand in this contract.
+    // All that hear tests of a packet; the message that it is.
     pub fn admit<'a, C: Check>(
         &self,
         bytes: &'a [u8],
@@ -223,8 +220,6 @@ impl Record {
     ) -> Result<Message<'a>, Refusal>
         ensures value { answered (λ message. heard_as (membership_of self.now.member) (kept_of self.now.round) (books_of books.entry) bytes.now (told message)) result ≡ outcome (C.Check.vouched check.now) (hear_call (membership_of self.now.member) (kept_of self.now.round) (books_of books.entry) out bytes.now) }
         ensures message { IfOk result (λ message. map_ok (locate bytes.now) (message_of self.now.member.limit.bytes bytes.now) ≡ Ok (told message)) }
-        ensures laws { CallLaws }
-        ensures examples { CallExamples }
     {
         self.room(books, out)?;
         let limit = self.member.limit;

@@ -48,7 +48,7 @@ impl Record {
     }
 
     // The new-view of a site, as it lies in the view book.
-    fn gathered_turn<'b>(&self, views: &'b [u8], site: usize) -> &'b [u8]
+    pub fn gathered_turn<'b>(&self, views: &'b [u8], site: usize) -> &'b [u8]
         requires site { site < 16 }
         requires room { (site + 1) * view_row self.now.member.fleet.f self.now.member.fleet.t self.now.member.limit.bytes ≤ length views.now }
         ensures value { result.now ≡ gathered_turn (membership_of self.now.member) (kept_of self.now.round) views.now site }

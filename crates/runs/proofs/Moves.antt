@@ -226,7 +226,7 @@ module _ (v : Vouched) (good : SiteSet) (log : List Said) (m : Membership) (k : 
           let rows = with_prepare k.rows i c.value in
           let certifies = holding m rows.prepares c.value == recovery_quorum m.f m.t in
           let output = (hear_content m k books packet (prepare c tag)).answer.output in
-          let certificate = certificate_from m k books rows.prepares (laid books.tags (i * tag_row m.limit) (tag_bytes tag)) (set k.lengths.tags i (length (tag_bytes tag))) c.value in
+          let certificate = certificate_from m rows.prepares (laid books.tags (i * tag_row m.limit) (tag_bytes tag)) (set k.lengths.tags i (length (tag_bytes tag))) c.value in
           record {
             move = hear_prepare i c.value;
             tests = row_ok v row c.value q.rest_ok;

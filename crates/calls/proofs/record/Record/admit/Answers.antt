@@ -6,8 +6,6 @@ use Rattle.records.specs.Books.{books_of}
 use Rattle.records.specs.Kept.{membership_of, kept_of}
 use Rattle.calls.proofs.Read.{unread}
 use Rattle.calls.proofs.Hear.{hear_no_room, hear_unread, hears_propose, hears_prepare, hears_commit, hears_new_view}
-use Rattle.calls.proofs.Laws.{call_laws}
-use Rattle.calls.proofs.Examples.{call_examples}
 use Rattle.calls.proofs.record.Record.admit.Goals as goal
 use Rattle.calls.proofs.record.Record.admit.Goals.{in-Propose+in_ok-admit_propose-in-Propose, in-Prepare+in_ok-admit_prepare-in-Prepare, in-Commit+in_ok-admit_commit-in-Commit, in-NewView+in_ok-admit_new_view-in-NewView}
 
@@ -165,45 +163,3 @@ returns-clause-value g c =
           let e = r.is in
           search rules
     ]
-
-pub returns-in_err-room-clause-laws : goal.returns-in_err-room-clause-laws
-returns-in_err-room-clause-laws g c = call_laws
-
-pub returns-in_err-room-clause-examples : goal.returns-in_err-room-clause-examples
-returns-in_err-room-clause-examples g c = call_examples
-
-pub returns-in_err-message-clause-laws : goal.returns-in_err-message-clause-laws
-returns-in_err-message-clause-laws g c = call_laws
-
-pub returns-in_err-message-clause-examples : goal.returns-in_err-message-clause-examples
-returns-in_err-message-clause-examples g c = call_examples
-
-pub returns-in_err-admit_propose-in-Propose-clause-laws : goal.returns-in_err-admit_propose-in-Propose-clause-laws
-returns-in_err-admit_propose-in-Propose-clause-laws g c = call_laws
-
-pub returns-in_err-admit_propose-in-Propose-clause-examples : goal.returns-in_err-admit_propose-in-Propose-clause-examples
-returns-in_err-admit_propose-in-Propose-clause-examples g c = call_examples
-
-pub returns-in_err-admit_prepare-in-Prepare-clause-laws : goal.returns-in_err-admit_prepare-in-Prepare-clause-laws
-returns-in_err-admit_prepare-in-Prepare-clause-laws g c = call_laws
-
-pub returns-in_err-admit_prepare-in-Prepare-clause-examples : goal.returns-in_err-admit_prepare-in-Prepare-clause-examples
-returns-in_err-admit_prepare-in-Prepare-clause-examples g c = call_examples
-
-pub returns-in_err-admit_commit-in-Commit-clause-laws : goal.returns-in_err-admit_commit-in-Commit-clause-laws
-returns-in_err-admit_commit-in-Commit-clause-laws g c = call_laws
-
-pub returns-in_err-admit_commit-in-Commit-clause-examples : goal.returns-in_err-admit_commit-in-Commit-clause-examples
-returns-in_err-admit_commit-in-Commit-clause-examples g c = call_examples
-
-pub returns-in_err-admit_new_view-in-NewView-clause-laws : goal.returns-in_err-admit_new_view-in-NewView-clause-laws
-returns-in_err-admit_new_view-in-NewView-clause-laws g c = call_laws
-
-pub returns-in_err-admit_new_view-in-NewView-clause-examples : goal.returns-in_err-admit_new_view-in-NewView-clause-examples
-returns-in_err-admit_new_view-in-NewView-clause-examples g c = call_examples
-
-pub returns-clause-laws : goal.returns-clause-laws
-returns-clause-laws g c = call_laws
-
-pub returns-clause-examples : goal.returns-clause-examples
-returns-clause-examples g c = call_examples
