@@ -1,0 +1,3 @@
+pub mod Drafts
+pub mod Counted
+pub mod Joining
