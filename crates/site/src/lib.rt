@@ -1,6 +1,8 @@
-// A site: its record, and the calls that its users make.
+// A site, and the calls that its users make.
 #![tactic(auto)]
 
+mod calling;
 mod site;
 
+pub use effects::{Heard, What};
 pub use site::Site;

@@ -1,0 +1,2 @@
+pub mod Does
+pub mod Examples
