@@ -4,7 +4,7 @@
 ghost use Rattle.std.specs.Prelude.{◌≡◌, ◌<◌, [], Some, IfErr, None, OnOk};
 ghost use Rattle.std.specs.Option.{option_map};
 ghost use Rattle.hexadecimal.specs.declared.BadText.TheVariants.{NoMemory};
-ghost use Rattle.hexadecimal.specs.Spelling.{is_space, all_spaces, digit_of, taken, spelled, Tells, SpelledByItsText};
+ghost use Rattle.hexadecimal.specs.Spelling.{is_space, all_spaces, digit_of, taken, spelled, text_of, Tells, SpelledByItsText};
 ghost use Rattle.hexadecimal.specs.Texts.{bad_text};
 
 use std::alloc::{AllocError, AllocFailed, Global};
@@ -48,10 +48,25 @@ impl<T: Drop> From<AllocFailed<T>> for BadText {
     }
 }
 
-fn is_space(b: u8) -> bool
+pub fn is_space(b: u8) -> bool
     ensures { result ≡ is_space b }
 {
     matches!(b, b' ' | b'\t' | b'\r')
+}
+
+// Bytes as text, two digits each.
+#[derive(Clone, Copy)]
+pub struct Digits<'a>(pub &'a [u8]);
+
+impl fmt::Display for Digits<'_> {
+    ghost output = { λ digits. Some (text_of digits.0.now) };
+
+    fn fmt<W: fmt::Write>(&self, f: &mut fmt::Formatter<W>) -> fmt::Result {
+        for &byte in self.0 {
+            write!(f, "{byte:02x}")?;
+        }
+        Ok(())
+    }
 }
 
 // Nothing but blanks.
