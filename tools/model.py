@@ -2,7 +2,8 @@
 """A second reader and writer of the formats in docs/FORMATS.md, and a second judge, in another language.
 
   model.py explain [L]            explains lines on standard input, as the program `explain` does
-  model.py samples                the lines of crates/explain/stdin
+  model.py samples                the lines of crates/explain/stdin; the last are packets of the run with a liar, which
+                                  site_model.py plays
   model.py fuzz SEED N            N lines: packets whole, cut and damaged, drafts with tags, certificates to be judged
   model.py small [FROM TO [STEP]] every small certificate of the fleet of four sites, as lines to be judged: three
                                   entries for view 4, each with any prepare and any commit of two fixes in views 1 to 3,
@@ -549,14 +550,15 @@ class Book:
     """A register that is filled row by row."""
 
     def __init__(self):
-        self.rows = []
+        self.rows, self.numbers = [], {}
 
     def tag(self, site, statement):
         """The tag of a statement of a site, which stands in the register from now on."""
         made = row(site, statement)
-        if made not in self.rows:
+        if made not in self.numbers:
+            self.numbers[made] = len(self.rows)
             self.rows.append(made)
-        return word(self.rows.index(made))
+        return word(self.numbers[made])
 
 
 class Turn:
@@ -721,6 +723,13 @@ def line_samples():
     yield "a + is no digit here", "1 0 8 9 1 | | 00 + 00"
 
 
+def rehearsal_samples():
+    """Packets of a run with a liar, as the second site plays it. It stands on this file, and is asked for here alone."""
+    from site_model import rehearsal_packets
+    for comment, packet in rehearsal_packets():
+        yield comment, grouped(packet)
+
+
 def samples():
     """Comment and line, in order; the limit is 8."""
     yield from packet_samples()
@@ -728,6 +737,7 @@ def samples():
     yield from cause_samples()
     yield from fault_samples()
     yield from line_samples()
+    yield from rehearsal_samples()
 
 
 # ---- small certificates ----

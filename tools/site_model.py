@@ -6,7 +6,8 @@
                        expected one, or a line does not stand there
   site_model.py show   only prints
 
-It shares no code with the library or its definitions. Packets are read and certificates judged by model.py.
+It shares no code with the library or its definitions. Packets are read and certificates judged by model.py, which
+takes packets of the first run from here into the lines of crates/explain/stdin.
 """
 import copy
 import os
@@ -417,13 +418,18 @@ class Play:
     def reads(self, site, *expected):
         self.event("calls %d to_read" % site, site, lambda s, b, o: s.read(), expected)
 
-    def seals(self, site, m):
-        """The site's last draft is sealed, with its row's tag, and this packet comes out."""
-        draft, out = self.drafts[site], self.out[site]
+    def sealed(self, site, draft):
+        """What comes out when a draft is sealed with its row's tag."""
+        out = self.out[site]
         r = Reader(draft, self.limit)
         r.statement((1, 2, 3, 4))
         answer = self.sites[site].seal(out, draft, self.tag(site, draft[:r.at]))
-        assert answer == ("ok", "wrote", len(m.data)) and out[:len(m.data)] == m.data, m.text
+        assert answer[:2] == (OK, "wrote"), answer
+        return bytes(out[:answer[2]])
+
+    def seals(self, site, m):
+        """The site's last draft is sealed, with its row's tag, and this packet comes out."""
+        assert self.sealed(site, self.drafts[site]) == m.data, m.text
         self.events.append("seals %d %s" % (site, m.text))
 
 
@@ -457,9 +463,14 @@ def lie_in_view_1(p):
         p.leaves(site, 2, OK, "wrote", 40)
 
 
+def second_turns(p):
+    """The new-views that the leader of view 2 gathers."""
+    return [p.moving(0, 2, (1, E)).named("(new_view lie)"), p.moving(1, 2, (1, D)), p.moving(3, 2, (1, E))]
+
+
 def decide_in_view_2(p):
     """The new-views force e, which site 1 proposes and decides fast."""
-    second = [p.moving(0, 2, (1, E)).named("(new_view lie)"), p.moving(1, 2, (1, D)), p.moving(3, 2, (1, E))]
+    second = second_turns(p)
     p.seals(1, second[1])
     p.seals(3, second[2])
     p.hears_all(1, second, NOTED, NOTED, GATHERED)
@@ -476,13 +487,18 @@ def decide_in_view_2(p):
     p.reads(1, OK, "found", (2, E, "fast"))
 
 
+def third_turns(p):
+    """The new-views that the leader of view 3 gathers."""
+    late = p.moving(0, 3, (1, D), (1, D), (0, 1, 2)).named("(new_view late)")
+    return [late, p.moving(2, 3, (2, E)), p.moving(3, 3, (2, E))]
+
+
 def stay_in_view_3(p):
     """The fast certificate of view 2 is above the commit certificate that site 0 shows."""
     p.leaves(1, 3, OK, "wrote", 56 + 4 + 3 * 12)
     p.leaves(2, 3, OK, "wrote", 40)
     p.leaves(3, 3, OK, "wrote", 40)
-    late = p.moving(0, 3, (1, D), (1, D), (0, 1, 2)).named("(new_view late)")
-    third = [late, p.moving(2, 3, (2, E)), p.moving(3, 3, (2, E))]
+    third = third_turns(p)
     p.seals(2, third[1])
     p.seals(3, third[2])
     p.hears_all(2, third, NOTED, NOTED, GATHERED)
@@ -498,6 +514,28 @@ def rehearsal():
     decide_in_view_2(p)
     stay_in_view_3(p)
     return p
+
+
+def rehearsal_packets():
+    """Packets of this run: what each says, and its bytes. The commit and the last proposal stay drafts in the run;
+    here they are sealed, with rows behind the others."""
+    p = Play()
+    lie_in_view_1(p)
+    decide_in_view_2(p)
+    commit = p.drafts[1]
+    stay_in_view_3(p)
+    second, third = second_turns(p), third_turns(p)
+    yield "site 0 lies: in view 1 it proposes one fix to sites 1 and 2", p.proposing(0, 1, D).data
+    yield "and another to site 3", p.proposing(0, 1, E).data
+    yield "site 1 prepares the first", p.preparing(1, 1, D).data
+    yield "to the leader of view 2, site 0 says that it prepared the other, and shows no commit certificate", second[0].data
+    yield "site 1, which leads view 2, prepared the first", second[1].data
+    yield "and site 3 the other", second[2].data
+    yield "over these three, site 1 can propose the other fix only", p.proposing(1, 2, E, second).data
+    yield "and commits it, when it has heard three prepares", p.sealed(1, commit)
+    yield "to the leader of view 3, site 0 shows a commit certificate of view 1 for the first fix", third[0].data
+    yield "site 2, which leads view 3, prepared the other in view 2", third[1].data
+    yield "over these and that of site 3, site 2 can propose the other fix only", p.sealed(2, p.drafts[2])
 
 
 # ---- a run in which commits decide ----

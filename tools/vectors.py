@@ -3,7 +3,7 @@
 
   vectors.py shipped            the lines of crates/vectors/data/shipped.txt
   vectors.py fuzz SEED N        N more lines of signatures, good and damaged
-  vectors.py check FILE..       works out the answer to each digest, verify and vouch line of its own
+  vectors.py check FILE..       works out the answer to each digest, verify, vouch and sizes line of its own
 
 Signatures are made by Bouncy Castle, through Sign.java beside this file (Debian: libbcprov-java). Answers are
 worked out here, with hashlib, by the algorithms of RFC 8554. Neither shares code with the library.
@@ -15,6 +15,8 @@ import struct
 import subprocess
 import sys
 import tempfile
+
+from site_model import lengths
 
 HERE = os.path.dirname(os.path.abspath(__file__))
 JAR = os.environ.get("BOUNCY_CASTLE", "/usr/share/java/bcprov.jar")
@@ -176,6 +178,9 @@ def opinion(words, check):
     if words[0] == "vouch":
         statement, tag = (b"" if w == "-" else bytes.fromhex(w) for w in words[3:5])
         return check.vouches(int(words[2]), statement, tag) == (words[5] == "yes")
+    if words[0] == "sizes":
+        numbers = [int(w) for w in words[1:]]
+        return lengths(*numbers[:3]) == tuple(numbers[3:])
     if words[0] == "port":
         check.port = int(words[1])
     if words[0] == "revoke":
