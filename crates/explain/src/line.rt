@@ -1,5 +1,6 @@
 // What a line of text asks for.
-use hexadecimal::{BadText, decode};
+use hexadecimal::{BadText, decode, is_space};
+use lines::number;
 use std::alloc::Global;
 use std::fmt;
 
@@ -66,11 +67,6 @@ fn split_once(text: &[u8], mark: u8) -> Option<(&[u8], &[u8])> {
     Some((&text[..at], &text[at + 1..]))
 }
 
-// A # starts a comment.
-pub fn without_comment(line: &[u8]) -> &[u8] {
-    split_once(line, b'#').map_or(line, |(text, _)| text)
-}
-
 // What is wrong with a text, where so many characters of its line stand before it.
 fn behind(start: usize, bad: BadText) -> BadText {
     match bad {
@@ -86,22 +82,10 @@ fn decode_at(heap: Global, part: &[u8], start: usize) -> Result<Vec<u8>, BadText
     decode(heap, part).map_err(|bad| behind(start, bad))
 }
 
-fn is_blank(b: u8) -> bool {
-    matches!(b, b' ' | b'\t' | b'\r')
-}
-
-// A decimal number of 32 bits.
-fn number(word: &[u8]) -> Option<u32> {
-    word.iter().try_fold(0u32, |so_far, b| {
-        let digit = char::from(*b).to_digit(10)?;
-        so_far.checked_mul(10)?.checked_add(digit)
-    })
-}
-
 impl Terms {
     // Five numbers with blanks between them, and nothing else.
     fn read(text: &[u8]) -> Option<Terms> {
-        let mut words = text.split(|b| is_blank(*b)).filter(|word| !word.is_empty());
+        let mut words = text.split(|b| is_space(*b)).filter(|word| !word.is_empty());
         let terms = Terms {
             f: number(words.next()?)?,
             t: number(words.next()?)?,

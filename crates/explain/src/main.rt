@@ -10,6 +10,7 @@ mod pieces;
 use anyhow::anyhow;
 use judging::Case;
 use line::{Task, Trial};
+use lines::without_comment;
 use packets::seal;
 use page::Page;
 use pieces::{Grouped, Meant};
@@ -92,7 +93,7 @@ impl Explainer<'_> {
     // One line, if there is more on it than a comment.
     fn explain_line(self, number: usize, line: &[u8]) -> anyhow::Result<()> {
         let rt = self.rt;
-        let text = line::without_comment(line);
+        let text = without_comment(line);
         if hexadecimal::is_blank(text) {
             return Ok(());
         }

@@ -1,4 +1,5 @@
 // Pieces of the lines, by the values that they show.
+use hexadecimal::Digits;
 use std::fmt;
 use values::{Angle, Cause, Fix, Refusal, Report};
 use verdicts::{Forced, Forcing, Verdict};
@@ -192,9 +193,7 @@ impl fmt::Display for Grouped<'_> {
             if i > 0 {
                 f.write_str(" ")?;
             }
-            for byte in group {
-                write!(f, "{byte:02x}")?;
-            }
+            write!(f, "{}", Digits(group))?;
         }
         Ok(())
     }
