@@ -1,11 +1,12 @@
-// The bytes of the formats.
+// The bytes of the formats, and how long the books have to be.
 use super::line::{Line, Readable, UnknownWord};
 use super::tally::Tally;
 use anyhow::anyhow;
 use checks::register_row;
 use packets::{draft, read, seal, write};
+use records::Sizes;
 use std::str::FromStr;
-use values::{Fix, Refusal, TagLimit};
+use values::{Fix, Fleet, Refusal, TagLimit};
 use wire::{Claim, Head, Statement};
 
 // Room for any message that the lines have: one number, so that what is expected sets no room.
@@ -24,9 +25,12 @@ fn writes<F: FnOnce(&mut [u8]) -> Result<usize, Refusal>>(
     Ok(len.is_ok_and(|len| out.as_slice().get(..len) == Some(expected)))
 }
 
+fn length(line: Line<'_>, at: usize) -> anyhow::Result<usize> {
+    Ok(line.read::<u32>(at)? as usize)
+}
+
 fn limit(line: Line<'_>, at: usize) -> anyhow::Result<TagLimit> {
-    let bytes = line.read::<u32>(at)? as usize;
-    TagLimit::new(bytes).map_err(|_| anyhow!("no tag limit"))
+    TagLimit::new(length(line, at)?).map_err(|_| anyhow!("no tag limit"))
 }
 
 // The kinds of statements that the lines have.
@@ -127,4 +131,23 @@ pub fn run_row(line: Line<'_>, tally: &mut Tally<'_>) -> anyhow::Result<()> {
     });
     let len = statement.len();
     tally.note(format_args!("register row of {len} bytes"), right)
+}
+
+// sizes F T L TAGS CERTIFICATE VIEWS OUT: how long the three books and out have to be.
+pub fn run_sizes(line: Line<'_>, tally: &mut Tally<'_>) -> anyhow::Result<()> {
+    line.expect(8)?;
+    let fleet = Fleet::new(line.read(1)?, line.read(2)?).map_err(|_| anyhow!("no fleet"))?;
+    let limit = limit(line, 3)?;
+    let expected = Sizes {
+        tags: length(line, 4)?,
+        certificate: length(line, 5)?,
+        views: length(line, 6)?,
+        out: length(line, 7)?,
+    };
+    let right = Sizes::of(fleet, limit) == expected;
+    let (f, t, bytes) = (fleet.f(), fleet.t(), limit.bytes());
+    tally.note(
+        format_args!("sizes for f {f}, t {t}, tags of {bytes} bytes"),
+        right,
+    )
 }

@@ -52,6 +52,7 @@ impl<'a> Bench<'a> {
             "seal" => formats::run_seal(line, tally),
             "packet" => formats::run_packet(line, tally),
             "row" => formats::run_row(line, tally),
+            "sizes" => formats::run_sizes(line, tally),
             _ => Err(anyhow!("no such case")),
         }
     }
