@@ -1,17 +1,30 @@
-// What read, judge and seal answer at a site, and what seal leaves in out.
-use super::base::{COMMIT, D, PREPARE, bad_at, other_commit, proposal, record};
+// What open, judge and seal answer, and what seal leaves in out.
+use super::base::{COMMIT, D, PREPARE, bad_at, other_commit, proposal};
 use super::bytes::with_bytes;
+use super::harbour::Bench;
 use super::signs::Signs;
-use records::{Decision, Way};
 use site::Site;
 use std::test::Fail;
-use values::{Cause, Refusal, Report};
+use values::{Cause, Refusal};
 use verdicts::{Forced, Forcing, Verdict};
 
+// Site 4 of four, a tag limit of 6, and a fleet of 17.
+#[test]
+fn not_opened(rt: HostRuntime) -> Result<(), Fail> {
+    for (f, t, own, limit) in [(1, 0, 4, 4), (1, 0, 0, 6), (4, 2, 0, 4)] {
+        let answer = Site::open(f, t, own, limit, 9);
+        assert_eq!(rt; answer, Err(Refusal::Limits), "with f {f}, t {t}");
+    }
+    Ok(())
+}
+
+// A site in a view.
 fn site_in(own: u32, view: u32) -> Result<Site, Fail> {
-    Ok(Site {
-        record: record(own, view)?,
-    })
+    let mut site = Bench::new(own)?;
+    if view > 1 {
+        site.leave(view)?;
+    }
+    Ok(site.site)
 }
 
 // That d is forced by its commit in view 1.
@@ -20,22 +33,6 @@ const D_IS_FORCED: Verdict = Verdict::Forced(Forced {
     view: 1,
     by: Forcing::Commit,
 });
-
-// A decision of view 1, and the record is in view 2.
-#[test]
-fn decisions(rt: HostRuntime) -> Result<(), Fail> {
-    let mut site = site_in(1, 2)?;
-    assert!(rt; site.read().is_none());
-    site.record.round.committed = Some(Report { view: 1, value: D });
-    assert!(rt; site.read().is_none());
-    let decision = Decision {
-        report: Report { view: 1, value: D },
-        way: Way::Recovery,
-    };
-    site.record.round.decision = Some(decision);
-    assert!(rt; site.read() == Some(decision));
-    Ok(())
-}
 
 // The certificate of a proposal is for view 2 of round 9, whatever view the site is in.
 #[test]
@@ -64,11 +61,10 @@ fn judged_for_a_view(rt: HostRuntime) -> Result<(), Fail> {
     Ok(())
 }
 
-// The round is that of the record.
+// The round is that of the site.
 #[test]
 fn judged_in_the_round(rt: HostRuntime) -> Result<(), Fail> {
-    let mut site = site_in(3, 1)?;
-    site.record.round.number = 8;
+    let site = Site::open(1, 0, 3, 4, 8)?;
     let packet = proposal();
     let certificate = &packet[36..];
     assert!(rt; site.judge(2, certificate, &Signs) == bad_at(8, Cause::Round, 1));

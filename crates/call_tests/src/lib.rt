@@ -1,4 +1,4 @@
-// What the calls of a site test and ask, on examples worked out by hand.
+// What the calls of a site test, ask, answer and leave, on examples worked out by hand.
 #![tactic(auto)]
 
 #[cfg(test)]
@@ -14,9 +14,15 @@ mod bytes;
 #[cfg(test)]
 mod claims;
 #[cfg(test)]
+mod decides;
+#[cfg(test)]
+mod harbour;
+#[cfg(test)]
 mod hears;
 #[cfg(test)]
 mod leaves;
+#[cfg(test)]
+mod moves;
 #[cfg(test)]
 mod new_views;
 #[cfg(test)]
@@ -25,3 +31,5 @@ mod proposes;
 mod shown;
 #[cfg(test)]
 mod signs;
+#[cfg(test)]
+mod writes;
