@@ -114,10 +114,18 @@ impl Trial {
     }
 }
 
+// Whether a mark is there: no early end, so that many bytes are compared at once.
+fn has(text: &[u8], mark: u8) -> bool {
+    text.iter().fold(false, |found, b| found | (*b == mark))
+}
+
 impl Task {
     pub fn read(heap: Global, text: &[u8]) -> Result<Task, BadLine> {
-        if let Some((terms, parts)) = split_once(text, b'|') {
-            return Ok(Task::Judge(Trial::read(heap, terms, parts)?));
+        // Most lines have no |, and packets are long.
+        if has(text, b'|') {
+            if let Some((terms, parts)) = split_once(text, b'|') {
+                return Ok(Task::Judge(Trial::read(heap, terms, parts)?));
+            }
         }
         let Some((draft, tag)) = split_once(text, b'+') else {
             return Ok(Task::Explain {

@@ -111,9 +111,12 @@ impl Spelling {
         ensures after { OnOk result ((option_map (λ d. d.value) self.new.high, self.new.bytes.items) ≡ taken digit.value (option_map (λ d. d.value) self.old.high) self.old.bytes.items) }
         ensures refused { IfErr result (λ e. e ≡ NoMemory) }
     {
-        match self.high.take() {
+        match self.high {
             None => self.high = Some(digit),
-            Some(first) => self.bytes.push(first.value * 16 + digit.value)?,
+            Some(first) => {
+                self.bytes.push(first.value * 16 + digit.value)?;
+                self.high = None;
+            }
         }
         Ok(())
     }

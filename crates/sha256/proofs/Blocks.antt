@@ -91,7 +91,7 @@ unfolding padding
 length-padding n = simp (length-append, length-replicate) (omega arith)
 
 -- a number in 64 bits, as a machine writes it
-block64-bytes : (x : ℕ) → x / 2 ^ 56 % 256 ∷ x / 2 ^ 48 % 256 ∷ x / 2 ^ 40 % 256 ∷ x / 2 ^ 32 % 256 ∷ x / 2 ^ 24 % 256 ∷ x / 2 ^ 16 % 256 ∷ x / 2 ^ 8 % 256 ∷ x % 256 ∷ [] ≡ block64 x
+pub block64-bytes : (x : ℕ) → x / 2 ^ 56 % 256 ∷ x / 2 ^ 48 % 256 ∷ x / 2 ^ 40 % 256 ∷ x / 2 ^ 32 % 256 ∷ x / 2 ^ 24 % 256 ∷ x / 2 ^ 16 % 256 ∷ x / 2 ^ 8 % 256 ∷ x % 256 ∷ [] ≡ block64 x
 block64-bytes x =
     let a : x / 2 ^ 56 % 256 ≡ x / 2 ^ 32 / 16777216 % 256 = omega arith in
     let b : x / 2 ^ 48 % 256 ≡ x / 2 ^ 32 / 65536 % 256 = omega arith in
